@@ -1,0 +1,4 @@
+-- The definitions that the contracts cite.
+pub mod Date
+pub mod TimeOfDay
+pub mod UnixTime

@@ -1,0 +1,4 @@
+// Dates, times of day, and Unix time.
+pub mod date;
+pub mod time_of_day;
+pub mod unix_time;

@@ -1,0 +1,58 @@
+// Unix time of a clock time.
+use crate::date;
+use crate::time_of_day;
+use clock_time::ClockTime;
+use clock_time::Error;
+ghost use mathlib.Core.Path.{_≡_};
+ghost use mathlib.Core.Bool.{true};
+ghost use Prim.Native.Nat.{_<_};
+ghost use lib.IntN.{pos, _-ℤ_, _*ℤ_};
+ghost use Rattle.calendar.specs.UnixTime.{offsetInRange, isValid, instantOf, unixTime, unixTimeAnswer};
+
+// Seconds from 1 January 1970 00:00:00 UTC, or the error.
+pub enum UnixTime {
+    At(i64),
+    Refused(Error),
+}
+
+// True for at most 840 minutes either way.
+pub(crate) fn offset_in_range(offset: i16) -> bool
+    ensures { λ r. ⌜ r ≡ offsetInRange offset ⌝ }
+{
+    (-840 <= offset) & (offset <= 840)
+}
+
+fn is_valid(t: ClockTime) -> bool
+    ensures { λ r. ⌜ r ≡ isValid t ⌝ }
+{
+    let date = date::is_known_date(t.year, t.month, t.day);
+    let time = time_of_day::time_exists(t.hour, t.minute, t.second, t.utc_offset);
+    let offset = offset_in_range(t.utc_offset);
+    date & time & (1 <= t.weekday) & (t.weekday <= 7) & offset
+}
+
+fn to_utc(local: u64, offset: i16) -> i64
+    requires { ⌜ local < 1000000000000 ⌝ }
+    ensures { λ r. ⌜ r ≡ pos local -ℤ pos 60 *ℤ offset ⌝ }
+{
+    local as i64 - 60 * (offset as i64)
+}
+
+fn instant_of(t: ClockTime) -> i64
+    requires { ⌜ isValid t ≡ true ⌝ }
+    ensures { λ r. ⌜ r ≡ instantOf t ⌝ }
+{
+    let days = date::days_since_epoch(t.year, t.month, t.day);
+    let time = 3600 * (t.hour as u64) + 60 * (t.minute as u64) + t.second as u64;
+    to_utc(86400 * (days as u64) + time, t.utc_offset)
+}
+
+// The Unix time of a clock time, or 23 where its fields are none; the flags play no part.
+pub fn unix_time(t: ClockTime) -> UnixTime
+    ensures { λ r. ⌜ unixTimeAnswer r ≡ unixTime t ⌝ }
+{
+    if is_valid(t) {
+        return UnixTime::At(instant_of(t));
+    }
+    UnixTime::Refused(Error::Unrepresentable)
+}

@@ -1,0 +1,2 @@
+-- Laws that every layer's proofs cite.
+pub mod Tests

@@ -1,0 +1,3 @@
+-- The definitions that every layer's contracts cite.
+pub mod Errors
+pub mod Writing

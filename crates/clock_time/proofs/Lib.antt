@@ -1,2 +1,3 @@
 -- Laws that every layer's proofs cite.
 pub mod Tests
+pub mod WritingLaws

@@ -17,6 +17,9 @@ pub record Outcome : Type 0 where
   pub answer : Answer ℕ
   pub buffer : List ℕ
 
+abbrev pub outcome : WriteAnswer → List ℕ → Outcome
+outcome r buffer = record { answer = writeAnswer r; buffer = buffer }
+
 -- "it fills the first places it needs and changes nothing after them" (01, Refusal numbers); "A refusal [..] changes no
 -- byte or number of the memory lent." (demand 1)
 abbrev pub leaves : List ℕ → List ℕ → Answer ℕ → Outcome

@@ -1,0 +1,5 @@
+-- The laws of decimal digits, and the crate's main results.
+pub mod DecimalLaws
+pub mod ReadLaws
+pub mod WriteLaws
+pub mod Theorems

@@ -1,0 +1,47 @@
+-- `layout::check_clock` meets its contract. Assumes nothing.
+use borrow.Author.Needs.{needs}
+use Rattle.clock_time.proofs.Tests.{tests}
+use mathlib.Core.Path.{_≡_, sym, ap, _∙_}
+use mathlib.Core.Bool.{Bool, true, false, not, _||_}
+use mir.Syntax.{w16}
+use mir.Val.{SFits}
+use mir.Facts.{toZ-ofZ}
+use borrow.Author.Needs.{sfits-of}
+use Rattle.layout.specs.Text.{clockChecks}
+use Rattle.layout.proofs.check_clock.Statement.{statement}
+use Rattle.layout.proofs.check_clock.Tie as tie
+
+offset-fits : (c : tie.Start) → SFits w16 (c .args .t .«utc_offset»)
+offset-fits c = search sfits-of
+
+returns : tie.Need-returns
+unfolding clockChecks
+returns c = simp (← (c .before .date-exists .ensures), c .if1 .taken)
+
+returns-2 : tie.Need-returns-2
+unfolding clockChecks
+returns-2 c =
+    let d = c .before .before .before in
+    let time = rw (toZ-ofZ (offset-fits (d .before .before))) at (c .before .time-exists .ensures) in
+    simp (← (d .before .date-exists .ensures), d .if1 .left, ← time, c .if2 .taken)
+
+returns-3 : tie.Need-returns-3
+unfolding clockChecks
+returns-3 c =
+    let t = c .before .before .before in
+    let d = t .before .before .before in
+    let time = rw (toZ-ofZ (offset-fits (d .before .before))) at (t .before .time-exists .ensures) in
+    simp (← (d .before .date-exists .ensures), d .if1 .left, ← time, t .if2 .left, c .if3 .taken)
+
+returns-4 : tie.Need-returns-4
+unfolding clockChecks
+returns-4 c =
+    let t = c .before .before .before in
+    let d = t .before .before .before in
+    let time = rw (toZ-ofZ (offset-fits (d .before .before))) at (t .before .time-exists .ensures) in
+    simp (← (d .before .date-exists .ensures), d .if1 .left, ← time, t .if2 .left, c .if3 .left)
+
+pub check-clock-spec : {M : Type 1} → statement M
+check-clock-spec =
+    tie.close
+    (tie.spec (λ c κs. search needs) returns (λ c κs. search needs) returns-2 returns-3 returns-4)

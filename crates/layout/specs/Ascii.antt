@@ -1,0 +1,10 @@
+-- A quoted text as bytes. Assumes nothing.
+use Prim.Native.Nat.{ℕ}
+use Prim.Native.String.{String, [], _∷_}
+use Prim.Native.Char.{code}
+use mathlib.Core.List as lists
+use mathlib.Core.List.{List}
+
+unfoldable pub ascii : String → List ℕ
+ascii [] = lists.[]
+ascii (c ∷ s) = lists._∷_ (code c) (ascii s)

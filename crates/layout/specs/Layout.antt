@@ -1,0 +1,85 @@
+-- Layouts: for each place of a string, which bytes may stand there. Assumes nothing.
+use Prim.Native.Nat.{ℕ, zero, suc, _+_, _*_, _/_, _%_}
+use Prim.Native.Char.{Char, code}
+use mathlib.Core.Bool.{Bool, true, false, cond, not, _&&_, _||_}
+use mathlib.Core.List.{List, [], _∷_}
+use lib.Dec.{ltb, eqb}
+use lib.ListN.{length, getD}
+use Rattle.clock_time.specs.Errors.{errorNumber}
+use Rattle.decimal.specs.Decimal.{isDigit, value}
+use Rattle.layout.specs.declared.LayoutCheck.{LayoutCheck}
+use Rattle.layout.specs.declared.LayoutCheck.the-variants.{Fits, Offends}
+
+-- A place is a number: below 256 that byte and no other; `digit`, a decimal digit; `free`, any byte, since other rules
+-- speak of it; `flag a b`, the letter a, the letter b or a blank.
+abbrev pub digit : ℕ
+digit = 256
+
+abbrev pub free : ℕ
+free = 257
+
+abbrev pub flag : Char → Char → ℕ
+flag a b = 65536 + 256 * code a + code b
+
+-- k places of one kind
+abbrev pub places : ℕ → ℕ → List ℕ
+places zero p = []
+places (suc k) p = p ∷ places k p
+
+-- "2 a fixed byte differs", "3 no digit in a digit place", "4 a flag place holds another character" (01, Refusal
+-- numbers): the number of the byte b at the place p, 0 where it may stand there
+unfoldable pub offence : ℕ → ℕ → ℕ
+offence p b =
+    cond (ltb p 256) (cond (eqb b p) 0 2)
+    (cond (eqb p digit) (cond (isDigit b) 0 3)
+    (cond (eqb p free) 0
+    (cond (eqb b 32 || eqb b (p / 256 % 256) || eqb b (p % 256)) 0 4)))
+
+-- every place has a byte that may stand there
+unfoldable pub fits : List ℕ → List ℕ → Bool
+fits [] s = true
+fits (p ∷ l) [] = false
+fits (p ∷ l) (b ∷ s) = eqb (offence p b) 0 && fits l s
+
+-- the first place with the number k, the layout's length where there is none
+unfoldable pub first : ℕ → List ℕ → List ℕ → ℕ
+first k [] s = 0
+first k (p ∷ l) [] = suc (length l)
+first k (p ∷ l) (b ∷ s) = cond (eqb (offence p b) k) 0 (suc (first k l s))
+
+abbrev pub found : ℕ → List ℕ → List ℕ → Bool
+found k l s = ltb (first k l s) (length l)
+
+-- an error number, 0 for none, and the place that offends
+pub record Fault : Type 0 where
+  pub number : ℕ
+  pub place : ℕ
+
+abbrev pub fault : ℕ → ℕ → Fault
+fault k i = record { number = k; place = i }
+
+-- the first of the numbers that a place has, with the first such place
+abbrev pub firstFault : List ℕ → List ℕ → List ℕ → Fault
+firstFault [] l s = fault 0 0
+firstFault (k ∷ ks) l s = cond (found k l s) (fault k (first k l s)) (firstFault ks l s)
+
+-- "Order for text: 1, 2, 3, 4" (01, Refusal numbers)
+unfoldable pub checkLayout : List ℕ → List ℕ → Fault
+checkLayout l s = cond (eqb (length l) (length s)) (firstFault (2 ∷ 3 ∷ 4 ∷ []) l s) (fault 1 0)
+
+abbrev pub layoutFault : LayoutCheck → Fault
+layoutFault Fits = fault 0 0
+layoutFault (Offends e i) = fault (errorNumber e) i
+
+-- the k bytes of s from a place on
+abbrev pub run : ℕ → ℕ → List ℕ → List ℕ
+run at zero s = []
+run at (suc k) s = getD s at 0 ∷ run (suc at) k s
+
+-- the number that k digits from a place on stand for
+abbrev pub number : ℕ → ℕ → List ℕ → ℕ
+number k at s = value (run at k s)
+
+-- a letter stands at a place
+abbrev pub has : Char → ℕ → List ℕ → Bool
+has c at s = eqb (getD s at 0) (code c)

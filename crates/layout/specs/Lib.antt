@@ -1,0 +1,4 @@
+-- The definitions that the contracts cite.
+pub mod Ascii
+pub mod Layout
+pub mod Text

@@ -1,0 +1,49 @@
+-- The rule for every time string: which strings are read, in which order errors are given. Assumes nothing.
+use Prim.Native.Nat.{ℕ}
+use mathlib.Core.Bool.{Bool, not, _&&_, _||_}
+use mathlib.Core.List.{List, [], _∷_}
+use lib.Dec.{leb, eqb}
+use lib.ListN.{length}
+use Rattle.clock_time.specs.Errors.{Answer, accepted, refused, errorNumber, Check, given, checked}
+use Rattle.clock_time.specs.declared.ClockTime.{ClockTime}
+use Rattle.calendar.specs.Date.{dateExists}
+use Rattle.calendar.specs.TimeOfDay.{timeExists}
+use Rattle.layout.specs.Layout.{found}
+use Rattle.layout.specs.declared.ReadAnswer.{ReadAnswer}
+use Rattle.layout.specs.declared.ReadAnswer.the-variants.{Read, Refused}
+
+-- A format: its layout, what its fields say, and its own faults beyond those that all formats share.
+pub record Format (A : Type 0) : Type 0 where
+  pub layout : List ℕ
+  pub flagFault : List ℕ → Bool
+  pub offsetFault : List ℕ → Bool
+  pub positionFault : List ℕ → Bool
+  pub mismatch : List ℕ → Bool
+  pub fields : List ℕ → A
+  pub clock : A → ClockTime
+
+-- "5 no such date", "6 no such time of day, second 60 rule included", "7 weekday outside 1..7" (01, Refusal numbers)
+unfoldable pub clockChecks : ClockTime → Bool → List Check
+clockChecks t mismatch =
+    given 5 (not (dateExists (t .year) (t .month) (t .day)))
+    ∷ given 6 (not (timeExists (t .hour) (t .minute) (t .second) (t .«utc_offset»)) || mismatch)
+    ∷ given 7 (not (leb 1 (t .weekday) && leb (t .weekday) 7))
+    ∷ []
+
+-- "Order for text: 1, 2, 3, 4, 8, 9, 5, 6, 7." (01, Refusal numbers)
+unfoldable pub textChecks : {A : Type 0} → Format A → List ℕ → List Check
+textChecks f s =
+    given 1 (not (eqb (length (f .layout)) (length s)))
+    ∷ given 2 (found 2 (f .layout) s)
+    ∷ given 3 (found 3 (f .layout) s)
+    ∷ given 4 (found 4 (f .layout) s || f .flagFault s)
+    ∷ given 8 (f .offsetFault s)
+    ∷ given 9 (f .positionFault s)
+    ∷ clockChecks (f .clock (f .fields s)) (f .mismatch s)
+
+unfoldable pub readText : {A : Type 0} → Format A → List ℕ → Answer A
+readText f s = checked (textChecks f s) (f .fields s)
+
+abbrev pub readAnswer : ReadAnswer → Answer ClockTime
+readAnswer (Read t) = accepted t
+readAnswer (Refused e) = refused (errorNumber e)

@@ -1,0 +1,138 @@
+// The layouts of time strings: whether a string has the bytes that its layout asks for, the numbers at its places, and
+// the checks of a clock time that every format shares.
+use clock_time::ClockTime;
+use clock_time::Error;
+ghost use mathlib.Core.Path.{_≡_};
+ghost use Prim.Native.Nat.{_+_, _≤_, _<_};
+ghost use lib.ListN.{length};
+ghost use Rattle.clock_time.specs.Errors.{checked};
+ghost use Rattle.layout.specs.Layout.{offence, fits, first, checkLayout, layoutFault, number};
+ghost use Rattle.layout.specs.Text.{clockChecks, readAnswer};
+
+// Whether a string fits its layout: or the error, with the first place that offends.
+pub enum LayoutCheck {
+    Fits,
+    Offends(Error, usize),
+}
+
+// The clock time that was read, or the error.
+pub enum ReadAnswer {
+    Read(ClockTime),
+    Refused(Error),
+}
+
+// The error number of byte `b` at place `p` of a layout, 0 where it may stand there.
+fn offence_at(p: u32, b: u8) -> u8
+    ensures { λ r. ⌜ r ≡ offence p b ⌝ }
+{
+    let c = b as u32;
+    if p < 256 {
+        if c == p {
+            return 0;
+        }
+        return 2;
+    }
+    if p == 256 {
+        if (48 <= b) & (b <= 57) {
+            return 0;
+        }
+        return 3;
+    }
+    if p == 257 {
+        return 0;
+    }
+    if (b == 32) | (c == p / 256 % 256) | (c == p % 256) {
+        return 0;
+    }
+    4
+}
+
+fn does_fit(layout: &[u32], s: &[u8]) -> bool
+    requires { ⌜ length (now layout) ≡ length (now s) ⌝ }
+    ensures { λ r. ⌜ r ≡ fits (now (layout .entry)) (now (s .entry)) ⌝ }
+{
+    let mut i: usize = 0;
+    while i < layout.len() {
+        if offence_at(layout[i], s[i]) != 0 {
+            return false;
+        }
+        i += 1;
+    }
+    true
+}
+
+// The first place with the error number `k`, the length where there is none.
+fn first_offence(k: u8, layout: &[u32], s: &[u8]) -> usize
+    requires { ⌜ length (now layout) ≡ length (now s) ⌝ }
+    ensures { λ r. ⌜ r ≡ first k (now (layout .entry)) (now (s .entry)) ⌝ }
+{
+    let mut i: usize = 0;
+    while i < layout.len() {
+        if offence_at(layout[i], s[i]) == k {
+            return i;
+        }
+        i += 1;
+    }
+    i
+}
+
+// Whether `s` fits `layout`; else 1, or the first place of 2, of 3 or of 4, in this order.
+pub fn check_layout(layout: &[u32], s: &[u8]) -> LayoutCheck
+    ensures { λ r. ⌜ layoutFault r ≡ checkLayout (now (layout .entry)) (now (s .entry)) ⌝ }
+{
+    if layout.len() != s.len() {
+        return LayoutCheck::Offends(Error::Length, 0);
+    }
+    if does_fit(layout, s) {
+        return LayoutCheck::Fits;
+    }
+    let fixed = first_offence(2, layout, s);
+    if fixed < layout.len() {
+        return LayoutCheck::Offends(Error::FixedByte, fixed);
+    }
+    let digit = first_offence(3, layout, s);
+    if digit < layout.len() {
+        return LayoutCheck::Offends(Error::NotDigit, digit);
+    }
+    LayoutCheck::Offends(Error::FlagLetter, first_offence(4, layout, s))
+}
+
+// The digit at a place of `s`; 0 for a byte below the digits, and past the end.
+pub fn digit_at(s: &[u8], at: usize) -> u8
+    ensures { λ r. ⌜ r ≡ number 1 at (now (s .entry)) ⌝ }
+{
+    if s.len() <= at {
+        return 0;
+    }
+    let b = s[at];
+    if b < 48 {
+        return 0;
+    }
+    b - 48
+}
+
+// The number of the two digits from a place of `s` on.
+pub fn pair_at(s: &[u8], at: usize) -> u16
+    ensures { λ r. ⌜ r ≡ number 2 at (now (s .entry)) ⌝ }
+{
+    if s.len() <= at {
+        return 0;
+    }
+    10 * digit_at(s, at) as u16 + digit_at(s, at + 1) as u16
+}
+
+// The clock time, or the first of 5, 6 and 7 that holds of it; `mismatch` is a further reason for 6.
+pub fn check_clock(t: ClockTime, mismatch: bool) -> ReadAnswer
+    ensures { λ r. ⌜ readAnswer r ≡ checked (clockChecks t mismatch) t ⌝ }
+{
+    if !calendar::date::date_exists(t.year, t.month, t.day) {
+        return ReadAnswer::Refused(Error::NoSuchDate);
+    }
+    if !calendar::time_of_day::time_exists(t.hour, t.minute, t.second, t.utc_offset) | mismatch {
+        return ReadAnswer::Refused(Error::NoSuchTime);
+    }
+    if (1 <= t.weekday) & (t.weekday <= 7) {
+        return ReadAnswer::Read(t);
+    }
+    ReadAnswer::Refused(Error::Weekday)
+}

@@ -1,0 +1,64 @@
+-- The Meinberg standard string, 32 bytes. Assumes nothing.
+use Prim.Native.Nat.{ℕ}
+use Prim.Native.Char.{code}
+use mathlib.Core.Bool.{Bool, false, cond}
+use mathlib.Core.List.{List, [], _∷_, _++_}
+use lib.Dec.{eqb}
+use lib.ListN.{getD}
+use lib.IntN.{ℤ, pos}
+use Rattle.clock_time.specs.Errors.{Answer}
+use Rattle.clock_time.specs.declared.ClockTime.{ClockTime}
+use Rattle.calendar.specs.Date.{fullYear}
+use Rattle.layout.specs.Ascii.{ascii}
+use Rattle.layout.specs.Layout.{digit, flag, places, number, has}
+use Rattle.layout.specs.Text.{Format, readText}
+
+-- "`STX D:dd.mm.yy;T:w;U:hh.mm.ss;uvxy ETX` [..] The time has dots: 002 shows colons in the layout, dots in its pattern.
+-- Dots hold." (01, Meinberg and ELV strings)
+unfoldable pub standardLayout : List ℕ
+standardLayout =
+    ascii "\u{2}D:" ++ places 2 digit ++ ascii "." ++ places 2 digit ++ ascii "." ++ places 2 digit
+    ++ ascii ";T:" ++ places 1 digit
+    ++ ascii ";U:" ++ places 2 digit ++ ascii "." ++ places 2 digit ++ ascii "." ++ places 2 digit
+    ++ ascii ";" ++ (flag "#" "#" ∷ flag "*" "*" ∷ flag "U" "S" ∷ flag "!" "A" ∷ ascii "\u{3}")
+
+-- "x `U` (offset 0), `S` (offset 120, summer time) or blank (offset 60)" (01, Meinberg and ELV strings)
+unfoldable pub standardZone : ℕ → ℤ
+standardZone x = cond (eqb x (code "U")) (pos 0) (cond (eqb x (code "S")) (pos 120) (pos 60))
+
+-- "Flags at 27..30. u is `#` or blank (unsynchronised); v `*` or blank (unverified); x [..]; y `!` (change coming), `A`
+-- (leap second coming) or blank." (01, Meinberg and ELV strings)
+unfoldable pub standardFields : List ℕ → ClockTime
+standardFields s =
+    record {
+      year = fullYear (number 2 9 s);
+      month = number 2 6 s;
+      day = number 2 3 s;
+      weekday = number 1 14 s;
+      hour = number 2 18 s;
+      minute = number 2 21 s;
+      second = number 2 24 s;
+      «utc_offset» = standardZone (getD s 29 0);
+      unsynchronised = has "#" 27 s;
+      unverified = has "*" 28 s;
+      «summer_time» = has "S" 29 s;
+      «dst_change_announced» = has "!" 30 s;
+      «leap_second_announced» = has "A" 30 s;
+      «alternate_antenna» = false;
+    }
+
+-- it has no faults of its own beyond its layout's and its clock time's
+unfoldable pub standard : Format ClockTime
+standard =
+    record {
+      layout = standardLayout;
+      flagFault = λ s. false;
+      offsetFault = λ s. false;
+      positionFault = λ s. false;
+      mismatch = λ s. false;
+      fields = standardFields;
+      clock = λ t. t;
+    }
+
+unfoldable pub readStandard : List ℕ → Answer ClockTime
+readStandard s = readText standard s

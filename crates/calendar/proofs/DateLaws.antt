@@ -4,12 +4,12 @@ use Prim.Native.Nat.{ℕ, suc, _+_, _-_, _*_, _/_, _%_, _≤_, _<_}
 use native.Mathlib.Omega.{arith}
 use native.Mathlib.Decide.{decLt}
 use mathlib.Core.Path.{_≡_, refl, sym, ap, _∙_}
-use mathlib.Core.Bool.{Bool, true, false, _&&_}
+use mathlib.Core.Bool.{Bool, true, false, _&&_, _||_}
 use mathlib.Core.List.{List, [], _∷_}
 use lib.Dec.{T, leb, ltb, eqb, eqb→eq, leb→le, lit≤}
 use lib.ListN.{length, getD, take, List·getD-eq-default}
 use mir.Val.{boolByte}
-use borrow.Author.Tests.{leb-true}
+use borrow.Author.Tests.{leb-true, ne-eqb}
 use Rattle.clock_time.proofs.Tests.{both, below, below-at}
 use Rattle.calendar.specs.Date.{isLeapYear, monthLengths, daysInMonth, dateExists, firstYear, fullYear, knownDate, sum, daysOfYears, daysBeforeMonth, daysSinceEpoch}
 
@@ -30,15 +30,23 @@ module _ (test : Bool → ℕ → Bool) (passes : (leap : Bool) → T (below 13 
   every-month leap month h = below-at 13 (test leap) (passes leap) month (omega arith)
 
 lengthTest : Bool → ℕ → Bool
-lengthTest leap month = eqb (getD lengthTable month 0 + boolByte (leap && eqb month 2)) (getD (0 ∷ monthLengths leap) month 0)
+lengthTest leap month = eqb month 2 || eqb (getD lengthTable month 0) (getD (0 ∷ monthLengths leap) month 0)
 
-pub month-length : (leap : Bool) (month : ℕ) → month ≤ 12 → getD lengthTable month 0 + boolByte (leap && eqb month 2) ≡ getD (0 ∷ monthLengths leap) month 0
+pub month-length : (leap : Bool) (month : ℕ) → month ≤ 12 → (month ≡ 2 → ⊥)
+    → getD lengthTable month 0 ≡ getD (0 ∷ monthLengths leap) month 0
 unfolding lengthTest monthLengths
-month-length leap month h = eqb→eq _ _ (every-month lengthTest passes leap month h)
+month-length leap month h other =
+    let test = every-month lengthTest passes leap month h in
+    eqb→eq _ _ (rw (ne-eqb month 2 other) at test)
   where
     passes : (leap : Bool) → T (below 13 (lengthTest leap))
     passes true = tt
     passes false = tt
+
+pub february-length : (leap : Bool) → 28 + boolByte leap ≡ getD (0 ∷ monthLengths leap) 2 0
+unfolding monthLengths
+february-length true = refl
+february-length false = refl
 
 pub month-small : (leap : Bool) (month : ℕ) → month ≤ 12 → getD (0 ∷ monthLengths leap) month 0 ≤ 31
 unfolding monthLengths

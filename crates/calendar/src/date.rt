@@ -31,8 +31,10 @@ pub fn days_in_month(year: u16, month: u8) -> u8
     if 12 < month {
         return 0;
     }
-    let leap_day = is_leap_year(year) & (month == 2);
-    MONTH_LENGTHS[month as usize] + leap_day as u8
+    if month == 2 {
+        return 28 + is_leap_year(year) as u8;
+    }
+    MONTH_LENGTHS[month as usize]
 }
 
 // True where the Gregorian calendar has the date.

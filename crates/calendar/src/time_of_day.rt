@@ -15,6 +15,9 @@ fn utc_minute(hour: u8, minute: u8, offset: i16) -> u32
 pub fn time_exists(hour: u8, minute: u8, second: u8, offset: i16) -> bool
     ensures { λ r. ⌜ r ≡ timeExists hour minute second offset ⌝ }
 {
+    if second < 60 {
+        return (hour < 24) & (minute < 60);
+    }
     let utc = utc_minute(hour, minute, offset);
-    (hour < 24) & (minute < 60) & ((second < 60) | (second == 60) & (utc == 1439))
+    (hour < 24) & (minute < 60) & (second == 60) & (utc == 1439)
 }

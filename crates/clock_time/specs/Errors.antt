@@ -3,7 +3,11 @@ use Prim.Native.Nat.{ℕ}
 use mathlib.Core.Bool.{Bool, cond}
 use mathlib.Core.List.{List, [], _∷_}
 use Rattle.clock_time.specs.declared.Error.{Error}
-use Rattle.clock_time.specs.declared.Error.the-variants.{Length, FixedByte, NotDigit, FlagLetter, NoSuchDate, NoSuchTime, Weekday, UtcOffset, Position, NoEarlierGap, RunLength, UnsureMark, StartMark, ZoneMarks, MinuteParity, HourParity, DateParity, DecimalDigit, LeapMinute, LentMemory, Place, NewMark, Unrepresentable}
+use Rattle.clock_time.specs.declared.Error.the-variants.{Length, FixedByte, NotDigit, FlagLetter, NoSuchDate}
+use Rattle.clock_time.specs.declared.Error.the-variants.{NoSuchTime, Weekday, UtcOffset, Position, NoEarlierGap}
+use Rattle.clock_time.specs.declared.Error.the-variants.{RunLength, UnsureMark, StartMark, ZoneMarks, MinuteParity}
+use Rattle.clock_time.specs.declared.Error.the-variants.{HourParity, DateParity, DecimalDigit, LeapMinute}
+use Rattle.clock_time.specs.declared.Error.the-variants.{LentMemory, Place, NewMark, Unrepresentable}
 
 -- "| No. | Given when |" (01, Refusal numbers)
 abbrev pub errorNumber : Error → ℕ

@@ -1,29 +1,25 @@
 -- Laws of layouts, for any layout: the search for a place that offends, and what a string that fits has at each place.
 -- Assumes nothing.
-use Prim.Native.Nat.{ℕ, zero, suc, _+_, _/_, _%_, _≤_, _<_}
+use Prim.Native.Nat.{ℕ, zero, suc, _+_, _/_, _%_, _^_, _≤_, _<_}
+use native.Mathlib.Nat.{zero-add, add-zero}
 use native.Mathlib.Numerals.{add-one}
 use native.Mathlib.Omega.{arith}
 use mathlib.Core.Path.{_≡_, refl, sym, ap, _∙_}
-use mathlib.Core.Bool.{Bool, true, false, cond, _&&_, _||_, true≢false}
+use mathlib.Core.Bool.{Bool, true, false, cond, not, _&&_, true≢false}
 use mathlib.Core.List.{List, [], _∷_}
+use mathlib.Core.Logic.{_⊎_, inl, inr, ⊎-elim}
 use lib.Dec.{eqb, ltb, lit<}
-use lib.ListN.{length, getD, drop, drop-of-length-le}
+use lib.ListN.{length, getD, take, drop, drop-of-length-le}
 use lib.Seq.{drop-cons}
-use borrow.Author.Tests.{eq-eqb, ne-eqb, eqb-true, eqb-false, lt-ltb, le-ltb, ltb-false}
+use borrow.Author.Tests.{eq-eqb, ne-eqb, eqb-true, eqb-false, lt-ltb, le-ltb, ltb-false, not-true}
 use Rattle.clock_time.proofs.Tests.{both}
-use Rattle.decimal.specs.Decimal.{isDigit}
-use Rattle.layout.specs.Layout.{offence, fits, first, found, fault, checkLayout}
+use Rattle.decimal.specs.Decimal.{isDigit, firstNonDigit}
+use Rattle.decimal.proofs.DecimalLaws.{value-below}
+use Rattle.layout.specs.Layout.{digit, allowed, errorAt, offence, fitsFrom, first, found, Fault, fault, checkLayout}
+use Rattle.layout.specs.Layout.{FitsLayout, run, number}
 
 -- ---- one place after the other
 module _ (l s : List ℕ) (i : ℕ) (hl : i < length l) (hs : i < length s) where
-  pub fits-not : (offence (getD l i 0) (getD s i 0) ≡ 0 → ⊥) → fits (drop i l) (drop i s) ≡ false
-  unfolding fits
-  fits-not e = rw (drop-cons l i 0 hl, drop-cons s i 0 hs) (rw (ne-eqb _ _ e))
-
-  pub fits-next : offence (getD l i 0) (getD s i 0) ≡ 0 → fits (drop i l) (drop i s) ≡ fits (drop (i + 1) l) (drop (i + 1) s)
-  unfolding fits
-  fits-next e = rw (add-one, drop-cons l i 0 hl, drop-cons s i 0 hs) (rw (eq-eqb _ _ e))
-
   pub first-here : (k : ℕ) → offence (getD l i 0) (getD s i 0) ≡ k → first k (drop i l) (drop i s) ≡ 0
   unfolding first
   first-here k e = rw (drop-cons l i 0 hl, drop-cons s i 0 hs) (rw (eq-eqb _ _ e))
@@ -33,77 +29,104 @@ module _ (l s : List ℕ) (i : ℕ) (hl : i < length l) (hs : i < length s) wher
   first-later k e = rw (add-one, drop-cons l i 0 hl, drop-cons s i 0 hs) (rw (ne-eqb _ _ e))
 
 module _ (l s : List ℕ) (i : ℕ) (h : length l ≤ i) where
-  pub fits-end : fits (drop i l) (drop i s) ≡ true
-  unfolding fits
-  fits-end = rw (drop-of-length-le l h)
-
   pub first-end : (k : ℕ) → first k (drop i l) (drop i s) ≡ 0
   unfolding first
   first-end k = rw (drop-of-length-le l h)
 
 -- ---- a string that fits
-pub fits-places : (l s : List ℕ) → fits l s ≡ true → (i : ℕ) → i < length l → offence (getD l i 0) (getD s i 0) ≡ 0
-unfolding fits
-fits-places [] s h i j = absurd (omega arith)
-fits-places (p ∷ l) [] h i j = absurd (true≢false (sym h))
-fits-places (p ∷ l) (b ∷ s) h zero j = eqb-true _ _ (both (eqb (offence p b) 0) (fits l s) h .0)
-fits-places (p ∷ l) (b ∷ s) h (suc i) j = fits-places l s (both (eqb (offence p b) 0) (fits l s) h .1) i (omega arith)
+error-three : (p : ℕ) → (errorAt p ≡ 2) ⊎ ((errorAt p ≡ 3) ⊎ (errorAt p ≡ 4))
+unfolding errorAt
+error-three p = go (ltb p 256) (eqb p digit)
+  where
+    go : (a b : Bool) → (cond {A = ℕ} a 2 (cond b 3 4) ≡ 2) ⊎ ((cond {A = ℕ} a 2 (cond b 3 4) ≡ 3) ⊎ (cond {A = ℕ} a 2 (cond b 3 4) ≡ 4))
+    go true b = inl refl
+    go false true = inr (inl refl)
+    go false false = inr (inr refl)
 
-fits-first : (k : ℕ) → 0 < k → (l s : List ℕ) → fits l s ≡ true → length l ≤ first k l s
-unfolding fits first
-fits-first k p [] s h = omega arith
-fits-first k p (q ∷ l) [] h = omega arith
-fits-first k p (q ∷ l) (b ∷ s) h =
-    let w = both (eqb (offence q b) 0) (fits l s) h in
-    let none : offence q b ≡ 0 = eqb-true _ _ (w .0) in
-    let other : eqb (offence q b) k ≡ false = ne-eqb (offence q b) k (λ e. omega arith) in
-    rw other (omega (arith, fits-first k p l s (w .1)))
-
-pub fits-found : (k : ℕ) → 0 < k → (l s : List ℕ) → fits l s ≡ true → found k l s ≡ false
-fits-found k p l s h = le-ltb _ _ (fits-first k p l s h)
-
--- ---- a string that does not
-cond-all : {A : Type 0} (P : A → Type 0) (b : Bool) {x y : A} → P x → P y → P (cond b x y)
-cond-all P true p q = p
-cond-all P false p q = q
-
-abbrev Known : ℕ → Type 0
-Known n = (n ≡ 2 → ⊥) → (n ≡ 3 → ⊥) → (n ≡ 4 → ⊥) → n ≡ 0
-
-known : (p b : ℕ) → Known (offence p b)
+offence-none : (p b k : ℕ) → 0 < k → allowed p b ≡ true → eqb (offence p b) k ≡ false
 unfolding offence
-known p b =
-    cond-all Known (ltb p 256) (cond-all Known (eqb b p) (λ x y z. refl) (λ x y z. absurd (x refl)))
-    (cond-all Known (eqb p 256) (cond-all Known (isDigit b) (λ x y z. refl) (λ x y z. absurd (y refl)))
-    (cond-all Known (eqb p 257) (λ x y z. refl)
-    (cond-all Known (eqb b 32 || eqb b (p / 256 % 256) || eqb b (p % 256)) (λ x y z. refl) (λ x y z. absurd (z refl)))))
+offence-none p b k h e = rw e (ne-eqb 0 k (λ z. omega arith))
+
+offence-some : (p b : ℕ) → allowed p b ≡ false → offence p b ≡ errorAt p
+unfolding offence
+offence-some p b e = rw e
+
+fits-first : (k : ℕ) → 0 < k → (l s : List ℕ) → length l ≡ length s → ((i : ℕ) → i < length l → allowed (getD l i 0) (getD s i 0) ≡ true) → length l ≤ first k l s
+unfolding first
+fits-first k h [] s e f = omega arith
+fits-first k h (p ∷ l) [] e f = absurd (omega arith)
+fits-first k h (p ∷ l) (b ∷ s) e f =
+    rw (offence-none p b k h (f 0 (omega arith)))
+    (omega (arith, fits-first k h l s (omega arith) (λ i j. f (suc i) (omega arith))))
 
 later : (t : Bool) (m n : ℕ) → suc m ≤ cond t 0 (suc n) → (t ≡ false) × (m ≤ n)
 later true m n h = absurd (omega arith)
 later false m n h = (refl, omega arith)
 
--- where no place has one of the three numbers, all fit
-all-fit : (l s : List ℕ) → length l ≡ length s → length l ≤ first 2 l s → length l ≤ first 3 l s → length l ≤ first 4 l s
-    → fits l s ≡ true
-unfolding first fits
-all-fit [] s e f g h = refl
-all-fit (p ∷ l) [] e f g h = absurd (omega arith)
-all-fit (p ∷ l) (b ∷ s) e f g h =
-    let x = later (eqb (offence p b) 2) (length l) (first 2 l s) f in
-    let y = later (eqb (offence p b) 3) (length l) (first 3 l s) g in
-    let z = later (eqb (offence p b) 4) (length l) (first 4 l s) h in
-    let none = known p b (eqb-false _ _ (x .0)) (eqb-false _ _ (y .0)) (eqb-false _ _ (z .0)) in
-    rw (eq-eqb (offence p b) 0 none) (all-fit l s (omega arith) (x .1) (y .1) (z .1))
-
-pub none-found : (l s : List ℕ) → length l ≡ length s → found 2 l s ≡ false → found 3 l s ≡ false → found 4 l s ≡ false → fits l s ≡ true
-none-found l s e f g h = all-fit l s e (ltb-false _ _ f) (ltb-false _ _ g) (ltb-false _ _ h)
-
-pub flag-found : (l s : List ℕ) → length l ≡ length s → fits l s ≡ false → found 2 l s ≡ false → found 3 l s ≡ false → found 4 l s ≡ true
-flag-found l s e u f g = go (found 4 l s) refl
+-- where no place has one of the three numbers, each has a byte that may stand there
+all-allowed : (l s : List ℕ) → length l ≡ length s → length l ≤ first 2 l s → length l ≤ first 3 l s → length l ≤ first 4 l s
+    → (i : ℕ) → i < length l → allowed (getD l i 0) (getD s i 0) ≡ true
+unfolding first
+all-allowed [] s e f g h i j = absurd (omega arith)
+all-allowed (p ∷ l) [] e f g h i j = absurd (omega arith)
+all-allowed (p ∷ l) (b ∷ s) e f g h zero j = go (allowed p b) refl
   where
-    go : (t : Bool) → found 4 l s ≡ t → found 4 l s ≡ true
-    go true h = h
-    go false h = absurd (true≢false (sym (none-found l s e f g h) ∙ u))
+    go : (t : Bool) → allowed p b ≡ t → t ≡ true
+    go true q = refl
+    go false q = ⊎-elim
+        (λ z. absurd (eqb-false _ _ (later (eqb (offence p b) 2) (length l) (first 2 l s) f .0) (offence-some p b q ∙ z)))
+        (⊎-elim
+        (λ z. absurd (eqb-false _ _ (later (eqb (offence p b) 3) (length l) (first 3 l s) g .0) (offence-some p b q ∙ z)))
+        (λ z. absurd (eqb-false _ _ (later (eqb (offence p b) 4) (length l) (first 4 l s) h .0) (offence-some p b q ∙ z))))
+        (error-three p)
+all-allowed (p ∷ l) (b ∷ s) e f g h (suc i) j =
+    all-allowed l s (omega arith)
+    (later (eqb (offence p b) 2) (length l) (first 2 l s) f .1)
+    (later (eqb (offence p b) 3) (length l) (first 3 l s) g .1)
+    (later (eqb (offence p b) 4) (length l) (first 4 l s) h .1)
+    i (omega arith)
+
+pub fits-found : (k : ℕ) → 0 < k → {l s : List ℕ} → FitsLayout l s → found k l s ≡ false
+fits-found k h {l} {s} f = le-ltb _ _ (fits-first k h l s (f .long) (f .at))
+
+pub none-found : (l s : List ℕ) → length l ≡ length s → found 2 l s ≡ false → found 3 l s ≡ false → found 4 l s ≡ false → FitsLayout l s
+none-found l s e f g h = record { long = e; at = all-allowed l s e (ltb-false _ _ f) (ltb-false _ _ g) (ltb-false _ _ h) }
+
+-- the test of all places at once
+from-true : (t : Bool) (i : ℕ) (l s : List ℕ) → fitsFrom t i l s ≡ true → (t ≡ true) × ((k : ℕ) → k < length l → allowed (getD l k 0) (getD s (i + k) 0) ≡ true)
+unfolding fitsFrom
+from-true t i [] s h = (h, λ k j. absurd (omega arith))
+from-true t i (p ∷ l) s h =
+    let w = from-true (t && allowed p (getD s i 0)) (suc i) l s h in
+    let v = both t (allowed p (getD s i 0)) (w .0) in
+    (v .0, at (v .1) (w .1))
+  where
+    at : allowed p (getD s i 0) ≡ true → ((k : ℕ) → k < length l → allowed (getD l k 0) (getD s (suc i + k) 0) ≡ true)
+        → (k : ℕ) → k < suc (length l) → allowed (getD (p ∷ l) k 0) (getD s (i + k) 0) ≡ true
+    at a f zero j = rw add-zero a
+    at a f (suc k) j = let e : i + suc k ≡ suc i + k = omega arith in rw e (f k (omega arith))
+
+-- a place that offends settles the test
+fits-false : (t : Bool) (i : ℕ) (l s : List ℕ) → t ≡ false → fitsFrom t i l s ≡ false
+unfolding fitsFrom
+fits-false t i [] s h = h
+fits-false t i (p ∷ l) s h = fits-false (t && allowed p (getD s i 0)) (suc i) l s (rw h refl)
+
+fits-prefix : (n : ℕ) (t : Bool) (i : ℕ) (l s : List ℕ) → fitsFrom t i (take n l) s ≡ false → fitsFrom t i l s ≡ false
+unfolding fitsFrom
+fits-prefix zero t i l s h = fits-false t i l s h
+fits-prefix (suc n) t i [] s h = h
+fits-prefix (suc n) t i (p ∷ l) s h = fits-prefix n (t && allowed p (getD s i 0)) (suc i) l s h
+
+pub fits-stops : (n : ℕ) (l s : List ℕ) → not (fitsFrom true 0 (take n l) s) ≡ true → fitsFrom true 0 l s ≡ false
+fits-stops n l s h = fits-prefix n true 0 l s (not-true _ h)
+
+pub tested-fits : (l s : List ℕ) → length l ≡ length s → fitsFrom true 0 l s ≡ true → FitsLayout l s
+tested-fits l s e h =
+    record {
+      long = e;
+      at = λ i j. rw zero-add at (from-true true 0 l s h .1 i j);
+    }
 
 -- ---- the five outcomes of the check
 pub fault-length : (l s : List ℕ) → (length l ≡ length s → ⊥) → checkLayout l s ≡ fault 1 0
@@ -111,10 +134,6 @@ unfolding checkLayout
 fault-length l s d = simp (ne-eqb (length l) (length s) d)
 
 module _ (l s : List ℕ) (e : length l ≡ length s) where
-  pub fault-none : fits l s ≡ true → checkLayout l s ≡ fault 0 0
-  unfolding checkLayout
-  fault-none h = simp (eq-eqb (length l) (length s) e, fits-found 2 (lit< tt) l s h, fits-found 3 (lit< tt) l s h, fits-found 4 (lit< tt) l s h)
-
   pub fault-fixed : found 2 l s ≡ true → checkLayout l s ≡ fault 2 (first 2 l s)
   unfolding checkLayout
   fault-fixed f = simp (eq-eqb (length l) (length s) e, f)
@@ -123,6 +142,56 @@ module _ (l s : List ℕ) (e : length l ≡ length s) where
   unfolding checkLayout
   fault-digit f g = simp (eq-eqb (length l) (length s) e, f, g)
 
-  pub fault-flag : found 2 l s ≡ false → found 3 l s ≡ false → fits l s ≡ false → checkLayout l s ≡ fault 4 (first 4 l s)
+  pub fault-flag : found 2 l s ≡ false → found 3 l s ≡ false → found 4 l s ≡ true → checkLayout l s ≡ fault 4 (first 4 l s)
   unfolding checkLayout
-  fault-flag f g u = simp (eq-eqb (length l) (length s) e, f, g, flag-found l s e u f g)
+  fault-flag f g h = simp (eq-eqb (length l) (length s) e, f, g, h)
+
+  pub fault-none : found 2 l s ≡ false → found 3 l s ≡ false → found 4 l s ≡ false → checkLayout l s ≡ fault 0 0
+  unfolding checkLayout
+  fault-none f g h = simp (eq-eqb (length l) (length s) e, f, g, h)
+
+-- where the check finds nothing, the string fits
+pub check-fits : (l s : List ℕ) → fault 0 0 ≡ checkLayout l s → FitsLayout l s
+unfolding checkLayout
+check-fits l s h = go (eqb (length l) (length s)) (found 2 l s) (found 3 l s) (found 4 l s) refl refl refl refl h
+  where
+    go : (a b c d : Bool) → eqb (length l) (length s) ≡ a → found 2 l s ≡ b → found 3 l s ≡ c → found 4 l s ≡ d
+        → fault 0 0 ≡ cond a (cond b (fault 2 (first 2 l s)) (cond c (fault 3 (first 3 l s)) (cond d (fault 4 (first 4 l s)) (fault 0 0)))) (fault 1 0)
+        → FitsLayout l s
+    go false b c d e f g i h = absurd (omega (arith, ap (λ (x : Fault). x .number) h))
+    go true true c d e f g i h = absurd (omega (arith, ap (λ (x : Fault). x .number) h))
+    go true false true d e f g i h = absurd (omega (arith, ap (λ (x : Fault). x .number) h))
+    go true false false true e f g i h = absurd (omega (arith, ap (λ (x : Fault). x .number) h))
+    go true false false false e f g i h =
+        none-found l s (eqb-true _ _ e) f g i
+
+pub fits-check : {l s : List ℕ} → FitsLayout l s → fault 0 0 ≡ checkLayout l s
+fits-check {l} {s} f =
+    sym (fault-none l s (f .long) (fits-found 2 (lit< tt) f) (fits-found 3 (lit< tt) f) (fits-found 4 (lit< tt) f))
+
+-- ---- digit places
+-- each of the places is a digit's
+abbrev pub allDigits : List ℕ → Bool
+allDigits [] = true
+allDigits (p ∷ l) = eqb p digit && allDigits l
+
+module _ {l s : List ℕ} (h : FitsLayout l s) where
+  -- digits stand at digit places
+  pub run-digits : (n at : ℕ) → at + n ≤ length l → allDigits (run at n l) ≡ true → firstNonDigit (run at n s) ≡ length (run at n s)
+  unfolding firstNonDigit allowed
+  run-digits zero at room d = refl
+  run-digits (suc n) at room d =
+      let w = both (eqb (getD l at 0) digit) (allDigits (run (suc at) n l)) d in
+      let byte = rw (eqb-true (getD l at 0) digit (w .0)) at (h .at at (omega arith)) in
+      rw byte (ap suc (run-digits n (suc at) (omega arith) (w .1)))
+
+  pub length-run : (n at : ℕ) → length (run at n s) ≡ n
+  length-run zero at = refl
+  length-run (suc n) at = ap suc (length-run n (suc at))
+
+  pub number-below : (n at : ℕ) → at + n ≤ length l → allDigits (run at n l) ≡ true → number n at s < 10 ^ n
+  number-below n at room d =
+      rw (length-run n at) at (value-below (run at n s) (run-digits n at room d))
+
+  pub pair-small : (at : ℕ) → at + 2 ≤ length l → allDigits (run at 2 l) ≡ true → number 2 at s % 256 ≡ number 2 at s
+  pair-small at room d = omega (arith, number-below 2 at room d)

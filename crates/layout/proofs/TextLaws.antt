@@ -1,12 +1,15 @@
 -- Laws of the rule for every time string, for any format. Assumes nothing.
 use Prim.Native.Nat.{ℕ}
-use mathlib.Core.Path.{_≡_, refl}
+use mathlib.Core.Path.{_≡_, refl, _∙_}
 use mathlib.Core.Bool.{Bool, true, false, cond, not, _||_}
 use mathlib.Core.List.{List, [], _∷_}
 use lib.Dec.{eqb}
 use lib.ListN.{length}
-use Rattle.clock_time.specs.Errors.{Answer, accepted, refused, Check, given, checked}
-use Rattle.layout.specs.Layout.{first, found, Fault, fault, checkLayout}
+use Rattle.clock_time.specs.Errors.{Answer, accepted, refused, errorNumber, Check, given, checked}
+use Rattle.clock_time.proofs.ErrorLaws.{number-positive}
+use Rattle.layout.specs.Layout.{first, found, Fault, fault, checkLayout, layoutFault}
+use Rattle.layout.specs.declared.LayoutCheck.{LayoutCheck}
+use Rattle.layout.specs.declared.LayoutCheck.the-variants.{Fits, Offends}
 use Rattle.layout.specs.Text.{Format, clockChecks, textChecks, readText}
 
 -- what is left to check of a string that fits its layout
@@ -38,3 +41,13 @@ read-layout {A} f s = go (eqb (length (f .layout)) (length s)) (found 2 (f .layo
     go true false true d = refl
     go true false false true = refl
     go true false false false = refl
+
+-- what the check of the layout found is the answer, or else the other checks are left
+abbrev pub afterLayout : {A : Type 0} → LayoutCheck → Answer A → Answer A
+afterLayout Fits a = a
+afterLayout (Offends e i) a = refused (errorNumber e)
+
+pub read-after : {A : Type 0} (f : Format A) (s : List ℕ) (r : LayoutCheck) → layoutFault r ≡ checkLayout (f .layout) s
+    → readText f s ≡ afterLayout r (checked (laterChecks f s) (f .fields s))
+read-after f s Fits h = read-layout f s ∙ simp (← h)
+read-after f s (Offends e i) h = read-layout f s ∙ simp (← h, number-positive e)

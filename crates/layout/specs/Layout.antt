@@ -1,6 +1,7 @@
 -- Layouts: for each place of a string, which bytes may stand there. Assumes nothing.
-use Prim.Native.Nat.{ℕ, zero, suc, _+_, _*_, _/_, _%_}
+use Prim.Native.Nat.{ℕ, zero, suc, _+_, _*_, _/_, _%_, _<_}
 use Prim.Native.Char.{Char, code}
+use mathlib.Core.Path.{_≡_}
 use mathlib.Core.Bool.{Bool, true, false, cond, not, _&&_, _||_}
 use mathlib.Core.List.{List, [], _∷_}
 use lib.Dec.{ltb, eqb}
@@ -11,35 +12,49 @@ use Rattle.layout.specs.declared.LayoutCheck.{LayoutCheck}
 use Rattle.layout.specs.declared.LayoutCheck.the-variants.{Fits, Offends}
 
 -- A place is a number: below 256 that byte and no other; `digit`, a decimal digit; `free`, any byte, since other rules
--- speak of it; `flag a b`, the letter a, the letter b or a blank.
+-- speak of it; `flag a`, the letter a or a blank; `either a b`, the letter a, the letter b or a blank.
 abbrev pub digit : ℕ
 digit = 256
 
 abbrev pub free : ℕ
 free = 257
 
-abbrev pub flag : Char → Char → ℕ
-flag a b = 65536 + 256 * code a + code b
+abbrev pub flag : Char → ℕ
+flag a = 512 + code a
+
+abbrev pub either : Char → Char → ℕ
+either a b = 65536 + 256 * code a + code b
 
 -- k places of one kind
 abbrev pub places : ℕ → ℕ → List ℕ
 places zero p = []
 places (suc k) p = p ∷ places k p
 
--- "2 a fixed byte differs", "3 no digit in a digit place", "4 a flag place holds another character" (01, Refusal
--- numbers): the number of the byte b at the place p, 0 where it may stand there
-unfoldable pub offence : ℕ → ℕ → ℕ
-offence p b =
-    cond (ltb p 256) (cond (eqb b p) 0 2)
-    (cond (eqb p digit) (cond (isDigit b) 0 3)
-    (cond (eqb p free) 0
-    (cond (eqb b 32 || eqb b (p / 256 % 256) || eqb b (p % 256)) 0 4)))
+-- the byte b may stand at the place p
+unfoldable pub allowed : ℕ → ℕ → Bool
+allowed p b =
+    cond (ltb p 256) (eqb b p)
+    (cond (eqb p digit) (isDigit b)
+    (cond (eqb p free) true
+    (cond (ltb p 65536) (eqb b 32 || eqb b (p % 256)) (eqb b 32 || eqb b (p / 256 % 256) || eqb b (p % 256)))))
 
--- every place has a byte that may stand there
-unfoldable pub fits : List ℕ → List ℕ → Bool
-fits [] s = true
-fits (p ∷ l) [] = false
-fits (p ∷ l) (b ∷ s) = eqb (offence p b) 0 && fits l s
+-- "2 a fixed byte differs", "3 no digit in a digit place", "4 a flag place holds another character" (01, Refusal numbers)
+unfoldable pub errorAt : ℕ → ℕ
+errorAt p = cond (ltb p 256) 2 (cond (eqb p digit) 3 4)
+
+-- the error number of the byte b at the place p, 0 where it may stand there
+unfoldable pub offence : ℕ → ℕ → ℕ
+offence p b = cond (allowed p b) 0 (errorAt p)
+
+-- a string as long as its layout, with a byte at each place that may stand there
+pub record FitsLayout (l s : List ℕ) : Type 0 where
+  pub long : length l ≡ length s
+  pub at : (i : ℕ) → i < length l → allowed (getD l i 0) (getD s i 0) ≡ true
+
+-- the same as a test: what is left of a layout, from the place i on, has bytes of s that may stand there, and so far t
+unfoldable pub fitsFrom : Bool → ℕ → List ℕ → List ℕ → Bool
+fitsFrom t i [] s = t
+fitsFrom t i (p ∷ l) s = fitsFrom (t && allowed p (getD s i 0)) (suc i) l s
 
 -- the first place with the number k, the layout's length where there is none
 unfoldable pub first : ℕ → List ℕ → List ℕ → ℕ

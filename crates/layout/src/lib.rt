@@ -3,10 +3,10 @@
 use clock_time::ClockTime;
 use clock_time::Error;
 ghost use mathlib.Core.Path.{_≡_};
-ghost use Prim.Native.Nat.{_+_, _≤_, _<_};
+ghost use Prim.Native.Nat.{_%_};
 ghost use lib.ListN.{length};
 ghost use Rattle.clock_time.specs.Errors.{checked};
-ghost use Rattle.layout.specs.Layout.{offence, fits, first, checkLayout, layoutFault, number};
+ghost use Rattle.layout.specs.Layout.{allowed, errorAt, offence, first, checkLayout, layoutFault, number};
 ghost use Rattle.layout.specs.Text.{clockChecks, readAnswer};
 
 // Whether a string fits its layout: or the error, with the first place that offends.
@@ -21,44 +21,45 @@ pub enum ReadAnswer {
     Refused(Error),
 }
 
-// The error number of byte `b` at place `p` of a layout, 0 where it may stand there.
-fn offence_at(p: u32, b: u8) -> u8
-    ensures { λ r. ⌜ r ≡ offence p b ⌝ }
+fn is_allowed(p: u32, b: u8) -> bool
+    ensures { λ r. ⌜ r ≡ allowed p b ⌝ }
 {
     let c = b as u32;
     if p < 256 {
-        if c == p {
-            return 0;
-        }
+        return c == p;
+    }
+    if p == 256 {
+        return (48 <= b) & (b <= 57);
+    }
+    if p == 257 {
+        return true;
+    }
+    if p < 65536 {
+        return (c == 32) | (c == p % 256);
+    }
+    (c == 32) | (c == p / 256 % 256) | (c == p % 256)
+}
+
+fn error_at(p: u32) -> u8
+    ensures { λ r. ⌜ r ≡ errorAt p ⌝ }
+{
+    if p < 256 {
         return 2;
     }
     if p == 256 {
-        if (48 <= b) & (b <= 57) {
-            return 0;
-        }
         return 3;
-    }
-    if p == 257 {
-        return 0;
-    }
-    if (b == 32) | (c == p / 256 % 256) | (c == p % 256) {
-        return 0;
     }
     4
 }
 
-fn does_fit(layout: &[u32], s: &[u8]) -> bool
-    requires { ⌜ length (now layout) ≡ length (now s) ⌝ }
-    ensures { λ r. ⌜ r ≡ fits (now (layout .entry)) (now (s .entry)) ⌝ }
+// The error number of byte `b` at place `p` of a layout, 0 where it may stand there.
+fn offence_at(p: u32, b: u8) -> u8
+    ensures { λ r. ⌜ r ≡ offence p b ⌝ }
 {
-    let mut i: usize = 0;
-    while i < layout.len() {
-        if offence_at(layout[i], s[i]) != 0 {
-            return false;
-        }
-        i += 1;
+    if is_allowed(p, b) {
+        return 0;
     }
-    true
+    error_at(p)
 }
 
 // The first place with the error number `k`, the length where there is none.
@@ -83,9 +84,6 @@ pub fn check_layout(layout: &[u32], s: &[u8]) -> LayoutCheck
     if layout.len() != s.len() {
         return LayoutCheck::Offends(Error::Length, 0);
     }
-    if does_fit(layout, s) {
-        return LayoutCheck::Fits;
-    }
     let fixed = first_offence(2, layout, s);
     if fixed < layout.len() {
         return LayoutCheck::Offends(Error::FixedByte, fixed);
@@ -94,7 +92,11 @@ pub fn check_layout(layout: &[u32], s: &[u8]) -> LayoutCheck
     if digit < layout.len() {
         return LayoutCheck::Offends(Error::NotDigit, digit);
     }
-    LayoutCheck::Offends(Error::FlagLetter, first_offence(4, layout, s))
+    let flag = first_offence(4, layout, s);
+    if flag < layout.len() {
+        return LayoutCheck::Offends(Error::FlagLetter, flag);
+    }
+    LayoutCheck::Fits
 }
 
 // The digit at a place of `s`; 0 for a byte below the digits, and past the end.
@@ -111,14 +113,15 @@ pub fn digit_at(s: &[u8], at: usize) -> u8
     b - 48
 }
 
-// The number of the two digits from a place of `s` on.
-pub fn pair_at(s: &[u8], at: usize) -> u16
-    ensures { λ r. ⌜ r ≡ number 2 at (now (s .entry)) ⌝ }
+// The number of the two digits from a place of `s` on, modulo 256.
+pub fn pair_at(s: &[u8], at: usize) -> u8
+    ensures { λ r. ⌜ r ≡ number 2 at (now (s .entry)) % 256 ⌝ }
 {
     if s.len() <= at {
         return 0;
     }
-    10 * digit_at(s, at) as u16 + digit_at(s, at + 1) as u16
+    let pair = 10 * (digit_at(s, at) as u16) + digit_at(s, at + 1) as u16;
+    (pair % 256) as u8
 }
 
 // The clock time, or the first of 5, 6 and 7 that holds of it; `mismatch` is a further reason for 6.

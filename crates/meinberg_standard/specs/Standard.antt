@@ -10,7 +10,7 @@ use Rattle.clock_time.specs.Errors.{Answer}
 use Rattle.clock_time.specs.declared.ClockTime.{ClockTime}
 use Rattle.calendar.specs.Date.{fullYear}
 use Rattle.layout.specs.Ascii.{ascii}
-use Rattle.layout.specs.Layout.{digit, flag, places, number, has}
+use Rattle.layout.specs.Layout.{digit, flag, either, places, number, has}
 use Rattle.layout.specs.Text.{Format, readText}
 
 -- "`STX D:dd.mm.yy;T:w;U:hh.mm.ss;uvxy ETX` [..] The time has dots: 002 shows colons in the layout, dots in its pattern.
@@ -20,7 +20,7 @@ standardLayout =
     ascii "\u{2}D:" ++ places 2 digit ++ ascii "." ++ places 2 digit ++ ascii "." ++ places 2 digit
     ++ ascii ";T:" ++ places 1 digit
     ++ ascii ";U:" ++ places 2 digit ++ ascii "." ++ places 2 digit ++ ascii "." ++ places 2 digit
-    ++ ascii ";" ++ (flag "#" "#" ∷ flag "*" "*" ∷ flag "U" "S" ∷ flag "!" "A" ∷ ascii "\u{3}")
+    ++ ascii ";" ++ (flag "#" ∷ flag "*" ∷ either "U" "S" ∷ either "!" "A" ∷ ascii "\u{3}")
 
 -- "x `U` (offset 0), `S` (offset 120, summer time) or blank (offset 60)" (01, Meinberg and ELV strings)
 unfoldable pub standardZone : ℕ → ℤ

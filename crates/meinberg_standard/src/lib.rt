@@ -5,22 +5,21 @@ use layout::ReadAnswer;
 ghost use mathlib.Core.Path.{_≡_};
 ghost use mathlib.Core.Bool.{true};
 ghost use lib.ListN.{length};
-ghost use Rattle.layout.specs.Layout.{fits};
+ghost use Rattle.layout.specs.Layout.{FitsLayout, fitsFrom, checkLayout, layoutFault};
 ghost use Rattle.layout.specs.Text.{readAnswer};
 ghost use Rattle.meinberg_standard.specs.Standard.{standardLayout, standardZone, standardFields, readStandard};
 
-// A digit's place, and the flag places: 65,536 + 256 a + b stands for the letters a and b and the blank.
+// The layout, as the definition `standardLayout` has it.
 const D: u32 = 256;
 
-const UNSYNCHRONISED: u32 = 65536 + 256 * 35 + 35;
+const U: u32 = 512 + 35;
 
-const UNVERIFIED: u32 = 65536 + 256 * 42 + 42;
+const V: u32 = 512 + 42;
 
-const ZONE: u32 = 65536 + 256 * 85 + 83;
+const X: u32 = 65536 + 256 * 85 + 83;
 
-const ANNOUNCED: u32 = 65536 + 256 * 33 + 65;
+const Y: u32 = 65536 + 256 * 33 + 65;
 
-// The layout, as the definition `standardLayout` has it.
 const STANDARD: [u32; 32] = [
     2,
     68,
@@ -49,12 +48,81 @@ const STANDARD: [u32; 32] = [
     D,
     D,
     59,
-    UNSYNCHRONISED,
-    UNVERIFIED,
-    ZONE,
-    ANNOUNCED,
+    U,
+    V,
+    X,
+    Y,
     3,
 ];
+
+// Whether every place has a byte that may stand there.
+fn all_fit(s: &[u8]) -> bool
+    requires { ⌜ length (now s) ≡ 32 ⌝ }
+    ensures { λ r. ⌜ r ≡ fitsFrom true 0 standardLayout (now (s .entry)) ⌝ }
+{
+    let date = (s[0] == 2)
+        & (s[1] == b'D')
+        & (s[2] == b':')
+        & ((48 <= s[3]) & (s[3] <= 57))
+        & ((48 <= s[4]) & (s[4] <= 57))
+        & (s[5] == b'.')
+        & ((48 <= s[6]) & (s[6] <= 57))
+        & ((48 <= s[7]) & (s[7] <= 57))
+        & (s[8] == b'.')
+        & ((48 <= s[9]) & (s[9] <= 57))
+        & ((48 <= s[10]) & (s[10] <= 57));
+    if !date {
+        return false;
+    }
+    let weekday = date
+        & (s[11] == b';')
+        & (s[12] == b'T')
+        & (s[13] == b':')
+        & ((48 <= s[14]) & (s[14] <= 57))
+        & (s[15] == b';')
+        & (s[16] == b'U')
+        & (s[17] == b':');
+    if !weekday {
+        return false;
+    }
+    let time = weekday
+        & ((48 <= s[18]) & (s[18] <= 57))
+        & ((48 <= s[19]) & (s[19] <= 57))
+        & (s[20] == b'.')
+        & ((48 <= s[21]) & (s[21] <= 57))
+        & ((48 <= s[22]) & (s[22] <= 57))
+        & (s[23] == b'.')
+        & ((48 <= s[24]) & (s[24] <= 57))
+        & ((48 <= s[25]) & (s[25] <= 57))
+        & (s[26] == b';');
+    if !time {
+        return false;
+    }
+    time
+        & ((s[27] == b' ') | (s[27] == b'#'))
+        & ((s[28] == b' ') | (s[28] == b'*'))
+        & ((s[29] == b' ') | (s[29] == b'U') | (s[29] == b'S'))
+        & ((s[30] == b' ') | (s[30] == b'!') | (s[30] == b'A'))
+        & (s[31] == 3)
+}
+
+fn first_error(s: &[u8]) -> LayoutCheck
+    ensures { λ r. ⌜ layoutFault r ≡ checkLayout standardLayout (now (s .entry)) ⌝ }
+{
+    layout::check_layout(&STANDARD, s)
+}
+
+// The places are gone over once. Only where one offends is the first error looked for.
+fn check(s: &[u8]) -> LayoutCheck
+    ensures { λ r. ⌜ layoutFault r ≡ checkLayout standardLayout (now (s .entry)) ⌝ }
+{
+    if s.len() == 32 {
+        if all_fit(s) {
+            return LayoutCheck::Fits;
+        }
+    }
+    first_error(s)
+}
 
 // The UTC offset that the zone letter stands for.
 fn zone_offset(letter: u8) -> i16
@@ -70,19 +138,19 @@ fn zone_offset(letter: u8) -> i16
 }
 
 fn fields(s: &[u8]) -> ClockTime
-    requires { ⌜ (length (now s) ≡ 32) × (fits standardLayout (now s) ≡ true) ⌝ }
+    requires { ⌜ (length (now s) ≡ 32) × FitsLayout standardLayout (now s) ⌝ }
     ensures { λ r. ⌜ r ≡ standardFields (now (s .entry)) ⌝ }
 {
     let zone = s[29];
     let announced = s[30];
     ClockTime {
-        year: calendar::date::full_year(layout::pair_at(s, 9) as u8),
-        month: layout::pair_at(s, 6) as u8,
-        day: layout::pair_at(s, 3) as u8,
+        year: calendar::date::full_year(layout::pair_at(s, 9)),
+        month: layout::pair_at(s, 6),
+        day: layout::pair_at(s, 3),
         weekday: layout::digit_at(s, 14),
-        hour: layout::pair_at(s, 18) as u8,
-        minute: layout::pair_at(s, 21) as u8,
-        second: layout::pair_at(s, 24) as u8,
+        hour: layout::pair_at(s, 18),
+        minute: layout::pair_at(s, 21),
+        second: layout::pair_at(s, 24),
         utc_offset: zone_offset(zone),
         unsynchronised: s[27] == b'#',
         unverified: s[28] == b'*',
@@ -97,7 +165,7 @@ fn fields(s: &[u8]) -> ClockTime
 pub fn read_standard(s: &[u8]) -> ReadAnswer
     ensures { λ r. ⌜ readAnswer r ≡ readStandard (now (s .entry)) ⌝ }
 {
-    match layout::check_layout(&STANDARD, s) {
+    match check(s) {
         LayoutCheck::Offends(e, _) => ReadAnswer::Refused(e),
         LayoutCheck::Fits => layout::check_clock(fields(s), false),
     }

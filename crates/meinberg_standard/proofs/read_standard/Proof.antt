@@ -1,53 +1,45 @@
+-- `meinberg_standard::read_standard` meets its contract. Assumes nothing.
 use borrow.Author.Needs.{needs}
+use mathlib.Core.Path.{_≡_, sym, ap, _∙_}
+use denote.Ref.{now}
+use Rattle.clock_time.specs.Errors.{checked}
+use Rattle.layout.specs.Ascii.{ascii}
+use Rattle.layout.specs.Layout.{fault, layoutFault}
+use Rattle.layout.specs.Text.{clockChecks}
+use Rattle.layout.proofs.LayoutLaws.{check-fits}
+use Rattle.layout.proofs.TextLaws.{read-after}
+use Rattle.meinberg_standard.specs.Standard.{standardLayout, standardFields, standard, readStandard}
 use Rattle.meinberg_standard.proofs.read_standard.Statement.{statement}
 use Rattle.meinberg_standard.proofs.read_standard.Tie as tie
-use Rattle.meinberg_standard.proofs.read_standard.Reads as reads
-use Rattle.meinberg_standard.proofs.read_standard.Lts as lts
-use Rattle.layout.proofs.check_clock.Reads as check-clock-reads
-use Rattle.layout.proofs.check_layout.Reads as check-layout-reads
-use Rattle.meinberg_standard.proofs.fields.Reads as fields-reads
 
--- src/lib.rt:66:32
-slice-aggregate-check-layout : tie.Need-slice-aggregate-check-layout
-slice-aggregate-check-layout c = search needs
-
--- src/lib.rt:66:11
-check-layout-requires : tie.Need-check-layout-requires
-check-layout-requires c κs = search needs
-
--- src/lib.rt:67:30
-enum-known-e : tie.Need-enum-known-e
-enum-known-e c = search needs
-
--- src/lib.rt:68:50
-enum-told : tie.Need-enum-told
-enum-told c = search needs
-
--- src/lib.rt:68:50
 fields-requires : tie.Need-fields-requires
-fields-requires c κs = ?
+unfolding standardLayout ascii
+fields-requires c κs =
+    let fit = check-fits standardLayout _ (rw (c .enum-told .given .1) at (c .before .before .check .ensures)) in
+    (sym (fit .long), fit)
 
--- src/lib.rt:68:30
-check-clock-requires : tie.Need-check-clock-requires
-check-clock-requires c κs = search needs
-
--- src/lib.rt:63:1
 returns : tie.Need-returns
-returns c = ?
+unfolding readStandard standard standardLayout ascii
+returns c =
+    let k = c .before .before .before in
+    sym (rw (c .before .e .given .1) at (read-after standard _ (k .check .result) (k .check .ensures)))
 
--- src/lib.rt:63:1
 returns-2 : tie.Need-returns-2
-returns-2 c = ?
+unfolding readStandard standard standardLayout ascii
+returns-2 c =
+    let told = c .before .before in
+    let k = told .before .before in
+    let read = read-after standard _ (k .check .result) (k .check .ensures) in
+    rw (c .before .fields .ensures) at (c .check-clock .ensures) ∙ sym (rw (told .enum-told .given .1) at read)
 
 pub read-standard-spec : {M : Type 1} → statement M
 read-standard-spec =
     tie.close
     (tie.spec
-    slice-aggregate-check-layout
-    check-layout-requires
-    enum-known-e
-    enum-told
+    (λ c κs. search needs)
+    (λ c. search needs)
+    (λ c. search needs)
     fields-requires
-    check-clock-requires
+    (λ c κs. search needs)
     returns
     returns-2)

@@ -1,19 +1,20 @@
+-- `meinberg_standard::zone_offset` meets its contract. Assumes nothing.
+use Rattle.clock_time.proofs.Tests.{tests}
+use Rattle.meinberg_standard.specs.Standard.{standardZone}
 use Rattle.meinberg_standard.proofs.zone_offset.Statement.{statement}
 use Rattle.meinberg_standard.proofs.zone_offset.Tie as tie
-use Rattle.meinberg_standard.proofs.zone_offset.Reads as reads
-use Rattle.meinberg_standard.proofs.zone_offset.Lts as lts
 
--- src/lib.rt:30:9
 returns : tie.Need-returns
-returns c = ?
+unfolding standardZone
+returns c = search tests
 
--- src/lib.rt:33:9
 returns-2 : tie.Need-returns-2
-returns-2 c = ?
+unfolding standardZone
+returns-2 c = search tests
 
--- src/lib.rt:26:1
 returns-3 : tie.Need-returns-3
-returns-3 c = ?
+unfolding standardZone
+returns-3 c = search tests
 
 pub zone-offset-spec : {M : Type 1} → statement M
 zone-offset-spec = tie.close (tie.spec returns returns-2 returns-3)

@@ -1,0 +1,77 @@
+-- Laws of errors. Assumes nothing.
+use Prim.Native.Nat.{ℕ, _-_}
+use mathlib.Core.Path.{_≡_, refl}
+use mathlib.Core.Bool.{Bool, false}
+use mathlib.Core.List.{List, [], _∷_}
+use lib.Dec.{eqb}
+use lib.ListN.{getD}
+use Rattle.clock_time.specs.Errors.{errorNumber}
+use Rattle.clock_time.specs.declared.Error.{Error}
+use Rattle.clock_time.specs.declared.Error.the-variants.{Length, FixedByte, NotDigit, FlagLetter, NoSuchDate}
+use Rattle.clock_time.specs.declared.Error.the-variants.{NoSuchTime, Weekday, UtcOffset, Position, NoEarlierGap}
+use Rattle.clock_time.specs.declared.Error.the-variants.{RunLength, UnsureMark, StartMark, ZoneMarks, MinuteParity}
+use Rattle.clock_time.specs.declared.Error.the-variants.{HourParity, DateParity, DecimalDigit, LeapMinute}
+use Rattle.clock_time.specs.declared.Error.the-variants.{LentMemory, Place, NewMark, Unrepresentable}
+
+-- the error with a number of the table
+abbrev pub errorOf : ℕ → Error
+errorOf n =
+    getD
+    (Length ∷ FixedByte ∷ NotDigit ∷ FlagLetter ∷ NoSuchDate ∷ NoSuchTime
+    ∷ Weekday ∷ UtcOffset ∷ Position ∷ NoEarlierGap ∷ RunLength ∷ UnsureMark
+    ∷ StartMark ∷ ZoneMarks ∷ MinuteParity ∷ HourParity ∷ DateParity ∷ DecimalDigit
+    ∷ LeapMinute ∷ LentMemory ∷ Place ∷ NewMark ∷ Unrepresentable ∷ [])
+    (n - 1)
+    Length
+
+-- so two errors with one number are the same
+pub errorOf-number : (e : Error) → errorOf (errorNumber e) ≡ e
+errorOf-number Length = refl
+errorOf-number FixedByte = refl
+errorOf-number NotDigit = refl
+errorOf-number FlagLetter = refl
+errorOf-number NoSuchDate = refl
+errorOf-number NoSuchTime = refl
+errorOf-number Weekday = refl
+errorOf-number UtcOffset = refl
+errorOf-number Position = refl
+errorOf-number NoEarlierGap = refl
+errorOf-number RunLength = refl
+errorOf-number UnsureMark = refl
+errorOf-number StartMark = refl
+errorOf-number ZoneMarks = refl
+errorOf-number MinuteParity = refl
+errorOf-number HourParity = refl
+errorOf-number DateParity = refl
+errorOf-number DecimalDigit = refl
+errorOf-number LeapMinute = refl
+errorOf-number LentMemory = refl
+errorOf-number Place = refl
+errorOf-number NewMark = refl
+errorOf-number Unrepresentable = refl
+
+-- 0 is no error's number
+pub number-positive : (e : Error) → eqb (errorNumber e) 0 ≡ false
+number-positive Length = refl
+number-positive FixedByte = refl
+number-positive NotDigit = refl
+number-positive FlagLetter = refl
+number-positive NoSuchDate = refl
+number-positive NoSuchTime = refl
+number-positive Weekday = refl
+number-positive UtcOffset = refl
+number-positive Position = refl
+number-positive NoEarlierGap = refl
+number-positive RunLength = refl
+number-positive UnsureMark = refl
+number-positive StartMark = refl
+number-positive ZoneMarks = refl
+number-positive MinuteParity = refl
+number-positive HourParity = refl
+number-positive DateParity = refl
+number-positive DecimalDigit = refl
+number-positive LeapMinute = refl
+number-positive LentMemory = refl
+number-positive Place = refl
+number-positive NewMark = refl
+number-positive Unrepresentable = refl

@@ -1,0 +1,13 @@
+-- `meinberg_standard::first_error` meets its contract. Assumes nothing.
+use borrow.Author.Needs.{needs}
+use Rattle.layout.specs.Ascii.{ascii}
+use Rattle.meinberg_standard.specs.Standard.{standardLayout}
+use Rattle.meinberg_standard.proofs.first_error.Statement.{statement}
+use Rattle.meinberg_standard.proofs.first_error.Tie as tie
+
+returns : tie.Need-returns
+unfolding ascii standardLayout
+returns c = c .check-layout .ensures
+
+pub first-error-spec : {M : Type 1} → statement M
+first-error-spec = tie.close (tie.spec (λ c. search needs) (λ c κs. search needs) returns)

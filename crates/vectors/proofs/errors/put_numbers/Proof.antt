@@ -1,0 +1,24 @@
+-- `vectors::errors::put_numbers` is safe and ends: each turn passes an error. Assumes nothing.
+use Prim.Native.Nat.{_-_}
+use borrow.Author.Needs.{needs}
+use Rattle.vectors.proofs.errors.put_numbers.Statement.{statement}
+use Rattle.vectors.proofs.errors.put_numbers.Tie as tie
+
+abbrev Inv-loop : tie.InvT-loop
+Inv-loop out₀ at n₀ i₀ out n i = Unit {0}
+
+abbrev μ-loop : tie.MeasureT-loop
+μ-loop out₀ at n₀ i₀ out n i = 23 - i
+
+pub put-numbers-spec : {M : Type 1} → statement M
+put-numbers-spec =
+    tie.close
+    (tie.spec
+    Inv-loop
+    μ-loop
+    (λ c. search needs)
+    (λ c κs. search needs)
+    (λ c. search needs)
+    (λ c. search needs)
+    (λ c. search needs)
+    (λ c. search needs))

@@ -1,0 +1,78 @@
+// Runs a table of commands: writes each line of standard input with what the library answers. Headings, which start
+// with `#`, and empty lines are only copied.
+mod dates;
+mod errors;
+mod fields;
+mod lines;
+mod numbers;
+mod output;
+mod times;
+
+use crate::output::Buffer;
+use libc::STDIN_FILENO;
+
+type Table = [u8; 1048576];
+
+// So many bytes are worth a write. The buffer has as much room again, for one more line and its answer.
+const ENOUGH: usize = 32768;
+
+// Puts the answer to a command, and nothing for any other line. No line is two commands, so the order is free.
+fn answer(line: &[u8], out: &mut Buffer, at: usize) -> usize {
+    let mut n = at;
+    n = errors::answer(line, out, n);
+    n = dates::answer(line, out, n);
+    times::answer(line, out, n)
+}
+
+// Puts the answer to a line, a question mark where it is no command.
+fn put_answer(line: &[u8], out: &mut Buffer, at: usize) -> usize {
+    let n = output::put_all(out, at, b" = ");
+    let end = answer(line, out, n);
+    if end == n {
+        return output::put(out, n, b'?');
+    }
+    end
+}
+
+fn put_line(line: &[u8], out: &mut Buffer, at: usize) -> usize {
+    let mut n = output::put_all(out, at, line);
+    if !lines::is_heading(line) {
+        n = put_answer(line, out, n);
+    }
+    output::put(out, n, b'\n')
+}
+
+// Answers every line of s; false, and no more, once a write fails.
+fn answer_lines(s: &[u8]) -> bool {
+    let mut out = io::large_buffer();
+    let mut n = 0;
+    let mut at = 0;
+    while at < s.len() {
+        let end = lines::line_end(s, at);
+        n = put_line(&s[at..end], &mut out, n);
+        if ENOUGH < n {
+            if !output::write(&out, n) {
+                return false;
+            }
+            n = 0;
+        }
+        at = end + 1;
+    }
+    output::write(&out, n)
+}
+
+// Answers standard input, which is read whole, as far as there is space.
+fn answer_input(space: &mut [u8]) -> bool {
+    let n = io::read_full(STDIN_FILENO, space);
+    answer_lines(&space[..n])
+}
+
+// Lends the array as a slice. Behind a reference its length needs no proof; that of a local array so long finds none.
+fn answer_in(table: &mut Table) -> bool {
+    answer_input(table)
+}
+
+fn main() {
+    let mut table = [0u8; 1048576];
+    answer_in(&mut table);
+}

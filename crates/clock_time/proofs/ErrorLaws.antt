@@ -1,11 +1,12 @@
--- Laws of errors. Assumes nothing.
+-- Laws of errors and of checks. Assumes nothing.
 use Prim.Native.Nat.{ℕ, _-_}
+use native.Mathlib.Omega.{arith}
 use mathlib.Core.Path.{_≡_, refl}
-use mathlib.Core.Bool.{Bool, false}
+use mathlib.Core.Bool.{Bool, true, false, cond}
 use mathlib.Core.List.{List, [], _∷_}
 use lib.Dec.{eqb}
 use lib.ListN.{getD}
-use Rattle.clock_time.specs.Errors.{errorNumber}
+use Rattle.clock_time.specs.Errors.{errorNumber, Answer, accepted, refused, Check, checked}
 use Rattle.clock_time.specs.declared.Error.{Error}
 use Rattle.clock_time.specs.declared.Error.the-variants.{Length, FixedByte, NotDigit, FlagLetter, NoSuchDate}
 use Rattle.clock_time.specs.declared.Error.the-variants.{NoSuchTime, Weekday, UtcOffset, Position, NoEarlierGap}
@@ -75,3 +76,21 @@ number-positive LentMemory = refl
 number-positive Place = refl
 number-positive NewMark = refl
 number-positive Unrepresentable = refl
+
+-- ---- what is accepted has passed every check
+abbrev pub Passes : List Check → Type 0
+Passes [] = Unit {0}
+Passes (k ∷ ks) = (k .fails ≡ false) × Passes ks
+
+pub accepted-passes : {A : Type 0} (ks : List Check) (a b : A) → checked ks a ≡ accepted b → Passes ks × (b ≡ a)
+accepted-passes [] a b h = (tt, cc)
+accepted-passes {A} (k ∷ ks) a b h = go (k .fails) refl h (λ g. accepted-passes ks a b g)
+  where
+    go : (t : Bool) → k .fails ≡ t → cond t (refused (k .number)) (checked ks a) ≡ accepted b
+        → (checked ks a ≡ accepted b → Passes ks × (b ≡ a)) → Passes (k ∷ ks) × (b ≡ a)
+    go true e h rest = absurd (let z : _≡_ {A = ℕ} 0 1 = cc in omega arith)
+    go false e h rest = ((e, rest h .0), rest h .1)
+
+pub passes-accepted : {A : Type 0} (ks : List Check) (a : A) → Passes ks → checked ks a ≡ accepted a
+passes-accepted [] a p = refl
+passes-accepted (k ∷ ks) a p = rw (p .0) (passes-accepted ks a (p .1))

@@ -1,4 +1,5 @@
 -- Laws that every layer's proofs cite.
 pub mod ErrorLaws
+pub mod SameLaws
 pub mod Tests
 pub mod WritingLaws

@@ -1,3 +1,4 @@
 -- The definitions that every layer's contracts cite.
 pub mod Errors
+pub mod Same
 pub mod Writing

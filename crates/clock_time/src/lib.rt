@@ -1,6 +1,11 @@
 // What every layer shares: the clock time with what a GPS string and a DCF77 minute add to it, and the errors.
 ghost use mathlib.Core.Path.{_≡_};
+ghost use mathlib.Core.List.{_++_};
+ghost use Prim.Native.Nat.{_≤_};
+ghost use lib.ListN.{length, drop};
 ghost use Rattle.clock_time.specs.Errors.{errorNumber};
+ghost use Rattle.clock_time.specs.Same.{eqℤ, sameFields, sameTime, samePosition};
+ghost use Rattle.clock_time.specs.Writing.{outcome, writing};
 
 // The lines of document 01's table of refusals, in its order.
 pub enum Error {
@@ -95,4 +100,77 @@ pub fn error_number(e: Error) -> u8
         Error::NewMark => 22,
         Error::Unrepresentable => 23,
     }
+}
+
+fn same_i16(a: i16, b: i16) -> bool
+    ensures { λ r. ⌜ r ≡ eqℤ a b ⌝ }
+{
+    a == b
+}
+
+fn same_i32(a: i32, b: i32) -> bool
+    ensures { λ r. ⌜ r ≡ eqℤ a b ⌝ }
+{
+    a == b
+}
+
+fn same_fields(a: ClockTime, b: ClockTime) -> bool
+    ensures { λ r. ⌜ r ≡ sameFields a b ⌝ }
+{
+    (a.year == b.year)
+        & (a.month == b.month)
+        & (a.day == b.day)
+        & (a.weekday == b.weekday)
+        & (a.hour == b.hour)
+        & (a.minute == b.minute)
+        & (a.second == b.second)
+        & (a.unsynchronised == b.unsynchronised)
+        & (a.unverified == b.unverified)
+        & (a.summer_time == b.summer_time)
+        & (a.dst_change_announced == b.dst_change_announced)
+        & (a.leap_second_announced == b.leap_second_announced)
+        & (a.alternate_antenna == b.alternate_antenna)
+}
+
+// True where two clock times agree in every field.
+pub fn same_time(a: ClockTime, b: ClockTime) -> bool
+    ensures { λ r. ⌜ r ≡ sameTime a b ⌝ }
+{
+    let fields = same_fields(a, b);
+    let offset = same_i16(a.utc_offset, b.utc_offset);
+    fields & offset
+}
+
+// True where two positions agree in every field.
+pub fn same_position(a: Position, b: Position) -> bool
+    ensures { λ r. ⌜ r ≡ samePosition a b ⌝ }
+{
+    let latitude = same_i32(a.latitude, b.latitude);
+    let longitude = same_i32(a.longitude, b.longitude);
+    latitude & longitude & (a.height == b.height)
+}
+
+fn copy_to_front(bytes: &[u8], out: &mut [u8])
+    requires { ⌜ length (now bytes) ≤ length (now out) ⌝ }
+    ensures { λ _. ⌜ now (out .exit) ≡ now (bytes .entry) ++ drop (length (now (bytes .entry))) (now (out .entry)) ⌝ }
+{
+    let mut i = 0;
+    while i < bytes.len() {
+        out[i] = bytes[i];
+        i += 1;
+    }
+}
+
+// Writes `bytes` to the front of `out`: 23 where they are not `readable`, 20 where there is no room.
+pub fn write_bytes(readable: bool, bytes: &[u8], out: &mut [u8]) -> WriteAnswer
+    ensures { λ r. ⌜ outcome r (now (out .exit)) ≡ writing readable (now (bytes .entry)) (now (out .entry)) ⌝ }
+{
+    if readable {
+        if out.len() < bytes.len() {
+            return WriteAnswer::Refused(Error::LentMemory);
+        }
+        copy_to_front(bytes, out);
+        return WriteAnswer::Written(bytes.len());
+    }
+    WriteAnswer::Refused(Error::Unrepresentable)
 }

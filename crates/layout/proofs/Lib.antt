@@ -1,3 +1,7 @@
--- Laws of the definitions.
+-- Laws of the definitions, and the main results.
 pub mod LayoutLaws
 pub mod TextLaws
+pub mod AcceptLaws
+pub mod WriteLaws
+pub mod BackLaws
+pub mod Theorems

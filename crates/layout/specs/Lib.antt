@@ -1,4 +1,5 @@
--- The definitions that the contracts cite.
+-- The definitions that the contracts and the main results cite.
 pub mod Ascii
 pub mod Layout
 pub mod Text
+pub mod Accepts

@@ -1,10 +1,12 @@
 -- The rule for every time string: which strings are read, in which order errors are given. Assumes nothing.
 use Prim.Native.Nat.{ℕ}
-use mathlib.Core.Bool.{Bool, not, _&&_, _||_}
+use Prim.Native.Char.{Char, code}
+use mathlib.Core.Bool.{Bool, false, cond, not, _&&_, _||_}
 use mathlib.Core.List.{List, [], _∷_}
 use lib.Dec.{leb, eqb}
 use lib.ListN.{length}
 use Rattle.clock_time.specs.Errors.{Answer, accepted, refused, errorNumber, Check, given, checked}
+use Rattle.clock_time.specs.Writing.{Outcome, writing}
 use Rattle.clock_time.specs.declared.ClockTime.{ClockTime}
 use Rattle.calendar.specs.Date.{dateExists}
 use Rattle.calendar.specs.TimeOfDay.{timeExists}
@@ -12,7 +14,8 @@ use Rattle.layout.specs.Layout.{found}
 use Rattle.layout.specs.declared.ReadAnswer.{ReadAnswer}
 use Rattle.layout.specs.declared.ReadAnswer.the-variants.{Read, Refused}
 
--- A format: its layout, what its fields say, and its own faults beyond those that all formats share.
+-- A format: its layout, what its fields say, its own faults beyond those that all formats share; and the only string that
+-- could be read as a value, with the test that two values are the same.
 pub record Format (A : Type 0) : Type 0 where
   pub layout : List ℕ
   pub flagFault : List ℕ → Bool
@@ -21,6 +24,8 @@ pub record Format (A : Type 0) : Type 0 where
   pub mismatch : List ℕ → Bool
   pub fields : List ℕ → A
   pub clock : A → ClockTime
+  pub text : A → List ℕ
+  pub same : A → A → Bool
 
 -- "5 no such date", "6 no such time of day, second 60 rule included", "7 weekday outside 1..7" (01, Refusal numbers)
 unfoldable pub clockChecks : ClockTime → Bool → List Check
@@ -43,6 +48,22 @@ textChecks f s =
 
 unfoldable pub readText : {A : Type 0} → Format A → List ℕ → Answer A
 readText f s = checked (textChecks f s) (f .fields s)
+
+-- the answer is this value
+abbrev pub isAccepted : {A : Type 0} → (A → A → Bool) → Answer A → A → Bool
+isAccepted same (accepted b) a = same b a
+isAccepted same (refused k) a = false
+
+-- "23: reading that no accepted string or minute of this format gives" (01, Refusal numbers): its text is not read as it
+unfoldable pub readsBack : {A : Type 0} → Format A → A → Bool
+readsBack f a = isAccepted (f .same) (readText f (f .text a)) a
+
+unfoldable pub writeText : {A : Type 0} → Format A → A → List ℕ → Outcome
+writeText f a buffer = writing (readsBack f a) (f .text a) buffer
+
+-- a letter where a flag is set, else a blank
+abbrev pub letter : Bool → Char → ℕ
+letter on c = cond on (code c) 32
 
 abbrev pub readAnswer : ReadAnswer → Answer ClockTime
 readAnswer (Read t) = accepted t

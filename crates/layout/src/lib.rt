@@ -7,7 +7,9 @@ ghost use Prim.Native.Nat.{_%_};
 ghost use lib.ListN.{length};
 ghost use Rattle.clock_time.specs.Errors.{checked};
 ghost use Rattle.layout.specs.Layout.{allowed, errorAt, offence, first, checkLayout, layoutFault, number};
-ghost use Rattle.layout.specs.Text.{clockChecks, readAnswer};
+ghost use Rattle.layout.specs.Text.{clockChecks, readAnswer, isAccepted};
+ghost use Rattle.clock_time.specs.Same.{sameTime};
+ghost use mathlib.Core.Bool.{cond};
 
 // Whether a string fits its layout: or the error, with the first place that offends.
 pub enum LayoutCheck {
@@ -138,4 +140,21 @@ pub fn check_clock(t: ClockTime, mismatch: bool) -> ReadAnswer
         return ReadAnswer::Read(t);
     }
     ReadAnswer::Refused(Error::Weekday)
+}
+
+// True where `a` is the clock time `t`.
+pub fn is_read_as(a: ReadAnswer, t: ClockTime) -> bool
+    ensures { λ r. ⌜ r ≡ isAccepted sameTime (readAnswer a) t ⌝ }
+{
+    match a {
+        ReadAnswer::Read(b) => clock_time::same_time(b, t),
+        ReadAnswer::Refused(_) => false,
+    }
+}
+
+// The letter where `on`, else a blank.
+pub fn letter_if(on: bool, letter: u8) -> u8
+    ensures { λ r. ⌜ r ≡ cond on letter 32 ⌝ }
+{
+    if on { letter } else { b' ' }
 }

@@ -7,11 +7,14 @@ use lib.Dec.{eqb}
 use lib.ListN.{getD}
 use lib.IntN.{ℤ, pos}
 use Rattle.clock_time.specs.Errors.{Answer}
+use Rattle.clock_time.specs.Same.{eqℤ, sameTime}
+use Rattle.clock_time.specs.Writing.{Outcome}
 use Rattle.clock_time.specs.declared.ClockTime.{ClockTime}
 use Rattle.calendar.specs.Date.{fullYear}
+use Rattle.decimal.specs.Decimal.{digits}
 use Rattle.layout.specs.Ascii.{ascii}
 use Rattle.layout.specs.Layout.{digit, flag, either, places, number, has}
-use Rattle.layout.specs.Text.{Format, readText}
+use Rattle.layout.specs.Text.{Format, readText, writeText, letter}
 
 -- "`STX D:dd.mm.yy;T:w;U:hh.mm.ss;uvxy ETX` [..] The time has dots: 002 shows colons in the layout, dots in its pattern.
 -- Dots hold." (01, Meinberg and ELV strings)
@@ -47,6 +50,27 @@ standardFields s =
       «alternate_antenna» = false;
     }
 
+-- the letter of a zone and the letter of what is announced, were the clock time to be read from them
+unfoldable pub zoneLetter : ℤ → Bool → ℕ
+zoneLetter offset summer = cond summer (code "S") (cond (eqℤ offset (pos 0)) (code "U") 32)
+
+unfoldable pub announcedLetter : Bool → Bool → ℕ
+announcedLetter change leap = cond change (code "!") (letter leap "A")
+
+-- the layout with the fields of a clock time and four letters in it
+abbrev pub lineOf : ClockTime → ℕ → ℕ → ℕ → ℕ → List ℕ
+lineOf t u v x y =
+    ascii "\u{2}D:" ++ digits 2 (t .day) ++ ascii "." ++ digits 2 (t .month) ++ ascii "." ++ digits 2 (t .year)
+    ++ ascii ";T:" ++ digits 1 (t .weekday)
+    ++ ascii ";U:" ++ digits 2 (t .hour) ++ ascii "." ++ digits 2 (t .minute) ++ ascii "." ++ digits 2 (t .second)
+    ++ ascii ";" ++ (u ∷ v ∷ x ∷ y ∷ ascii "\u{3}")
+
+unfoldable pub standardText : ClockTime → List ℕ
+standardText t =
+    lineOf t (letter (t .unsynchronised) "#") (letter (t .unverified) "*")
+    (zoneLetter (t .«utc_offset») (t .«summer_time»))
+    (announcedLetter (t .«dst_change_announced») (t .«leap_second_announced»))
+
 -- it has no faults of its own beyond its layout's and its clock time's
 unfoldable pub standard : Format ClockTime
 standard =
@@ -58,7 +82,12 @@ standard =
       mismatch = λ s. false;
       fields = standardFields;
       clock = λ t. t;
+      text = standardText;
+      same = sameTime;
     }
 
 unfoldable pub readStandard : List ℕ → Answer ClockTime
 readStandard s = readText standard s
+
+unfoldable pub writeStandard : ClockTime → List ℕ → Outcome
+writeStandard t buffer = writeText standard t buffer

@@ -27,11 +27,23 @@ returns c =
     let pair = pair-small (p .before .before .before .before .pre .1) in
     let f : SFits w16 (z .zone-offset .result) = search sfits-of in
     rw (toZ-ofZ f)
-    (simp
-    (z .zone-offset .ensures, e .pair-at6 .ensures, n .pair-at5 .ensures, h .pair-at4 .ensures, w .digit-at .ensures,
-    d .pair-at3 .ensures, m .pair-at2 .ensures, y .full-year .ensures, p .pair-at .ensures,
-    pair 3 (lit≤ tt) refl, pair 6 (lit≤ tt) refl, pair 9 (lit≤ tt) refl,
-    pair 18 (lit≤ tt) refl, pair 21 (lit≤ tt) refl, pair 24 (lit≤ tt) refl))
+    (simp (
+      z .zone-offset .ensures,
+      e .pair-at6 .ensures,
+      n .pair-at5 .ensures,
+      h .pair-at4 .ensures,
+      w .digit-at .ensures,
+      d .pair-at3 .ensures,
+      m .pair-at2 .ensures,
+      y .full-year .ensures,
+      p .pair-at .ensures,
+      pair 3 (lit≤ tt) refl,
+      pair 6 (lit≤ tt) refl,
+      pair 9 (lit≤ tt) refl,
+      pair 18 (lit≤ tt) refl,
+      pair 21 (lit≤ tt) refl,
+      pair 24 (lit≤ tt) refl,
+    ))
 
 pub fields-spec : {M : Type 1} → statement M
 fields-spec =

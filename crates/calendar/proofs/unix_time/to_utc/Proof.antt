@@ -27,8 +27,8 @@ sub-result c =
     rw (toZ-pos w64 h, widened w64 tt (c .fits .offset), toZ-ofZ (seconds-fit c))
     (record {
       sfits =
-        difference-size (c .args .local) (pos 60 *ℤ c .args .offset) (2 ^ 63)
-        (omega (arith, size, c .fits .offset .sfits));
+          difference-size (c .args .local) (pos 60 *ℤ c .args .offset) (2 ^ 63)
+          (omega (arith, size, c .fits .offset .sfits));
     })
 
 returns : tie.Need-returns

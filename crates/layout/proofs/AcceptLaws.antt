@@ -1,0 +1,73 @@
+-- A string is read exactly if the rules hold, for any format. Assumes nothing.
+use Prim.Native.Nat.{ℕ, _≤_}
+use mathlib.Core.Path.{_≡_, refl, sym, _∙_}
+use mathlib.Core.Bool.{Bool, true, false, not, _&&_, _||_, true≢false}
+use mathlib.Core.List.{List}
+use lib.Dec.{leb, eqb, lit<}
+use lib.ListN.{length}
+use borrow.Author.Tests.{not-false, eqb-true, eq-eqb, leb-true, le-leb}
+use Rattle.clock_time.specs.Errors.{accepted}
+use Rattle.clock_time.proofs.ErrorLaws.{accepted-passes, passes-accepted}
+use Rattle.clock_time.proofs.Tests.{both}
+use Rattle.layout.specs.Layout.{FitsLayout, found}
+use Rattle.layout.specs.Text.{Format, clockChecks, textChecks, readText}
+use Rattle.layout.specs.Accepts.{Accepts}
+use Rattle.layout.proofs.LayoutLaws.{none-found, fits-found}
+
+neither : (a b : Bool) → (a || b) ≡ false → (a ≡ false) × (b ≡ false)
+neither true b h = absurd (true≢false h)
+neither false b h = (refl, h)
+
+module _ {A : Type 0} (f : Format A) (s : List ℕ) where
+  pub read-accepts : (a : A) → readText f s ≡ accepted a → Accepts f s × (a ≡ f .fields s)
+  unfolding readText textChecks clockChecks
+  read-accepts a h =
+      let w = accepted-passes (textChecks f s) (f .fields s) a h in
+      let p = w .0 in
+      let r = p .1 .1 .1 in
+      let c = r .1 .1 .1 in
+      let flags = neither (found 4 (f .layout) s) (f .flagFault s) (r .0) in
+      let time = neither _ (f .mismatch s) (c .1 .0) in
+      let weekday = both _ _ (not-false _ (c .1 .1 .0)) in (
+        record {
+          fits = none-found (f .layout) s (eqb-true _ _ (not-false _ (p .0))) (p .1 .0) (p .1 .1 .0) (flags .0);
+          flags = flags .1;
+          offset = r .1 .0;
+          position = r .1 .1 .0;
+          date = not-false _ (c .0);
+          time = not-false _ (time .0);
+          agrees = time .1;
+          monday = leb-true _ _ (weekday .0);
+          sunday = leb-true _ _ (weekday .1);
+        },
+        w .1,
+      )
+
+  pub accepts-read : Accepts f s → readText f s ≡ accepted (f .fields s)
+  unfolding readText textChecks clockChecks
+  accepts-read r =
+      passes-accepted (textChecks f s) (f .fields s) (
+        simp (eq-eqb _ _ (r .fits .long)),
+        (
+          fits-found 2 (lit< tt) (r .fits),
+          (
+            fits-found 3 (lit< tt) (r .fits),
+            (
+              simp (fits-found 4 (lit< tt) (r .fits), r .flags),
+              (
+                r .offset,
+                (
+                  r .position,
+                  (
+                    simp (r .date),
+                    (
+                      simp (r .time, r .agrees),
+                      (simp (le-leb _ _ (r .monday), le-leb _ _ (r .sunday)), tt),
+                    ),
+                  ),
+                ),
+              ),
+            ),
+          ),
+        ),
+      )

@@ -11,7 +11,8 @@ use lib.ListN.{length, getD, take, List·getD-eq-default}
 use mir.Val.{boolByte}
 use borrow.Author.Tests.{leb-true, ne-eqb}
 use Rattle.clock_time.proofs.Tests.{both, below, below-at}
-use Rattle.calendar.specs.Date.{isLeapYear, monthLengths, daysInMonth, dateExists, firstYear, fullYear, knownDate, sum, daysOfYears, daysBeforeMonth, daysSinceEpoch}
+use Rattle.calendar.specs.Date.{isLeapYear, monthLengths, daysInMonth, dateExists, firstYear, fullYear}
+use Rattle.calendar.specs.Date.{knownDate, sum, daysOfYears, daysBeforeMonth, daysSinceEpoch}
 
 -- the tables of the code
 abbrev pub lengthTable : List ℕ
@@ -64,9 +65,11 @@ unfolding daysInMonth monthLengths
 no-month year month h = List·getD-eq-default (0 ∷ monthLengths (isLeapYear year)) 0 h
 
 beforeTest : Bool → ℕ → Bool
-beforeTest leap month = eqb (getD beforeTable month 0 + boolByte (leap && ltb 2 month)) (sum (take (month - 1) (monthLengths leap)))
+beforeTest leap month = eqb (getD beforeTable month 0 + boolByte (leap && ltb 2 month))
+    (sum (take (month - 1) (monthLengths leap)))
 
-pub days-before : (leap : Bool) (month : ℕ) → month ≤ 12 → getD beforeTable month 0 + boolByte (leap && ltb 2 month) ≡ sum (take (month - 1) (monthLengths leap))
+pub days-before : (leap : Bool) (month : ℕ) → month ≤ 12
+    → getD beforeTable month 0 + boolByte (leap && ltb 2 month) ≡ sum (take (month - 1) (monthLengths leap))
 unfolding beforeTest monthLengths
 days-before leap month h = eqb→eq _ _ (every-month beforeTest passes leap month h)
   where
@@ -112,7 +115,8 @@ known year month day h =
     ]
 
 -- the sum of the code
-pub days-sum : (year month day before : ℕ) → knownDate year month day ≡ true → before ≡ daysBeforeMonth year month → 365 * (year - 1970) + (year - 1970 + 1) / 4 + before + (day - 1) ≡ daysSinceEpoch year month day
+pub days-sum : (year month day before : ℕ) → knownDate year month day ≡ true → before ≡ daysBeforeMonth year month
+    → 365 * (year - 1970) + (year - 1970 + 1) / 4 + before + (day - 1) ≡ daysSinceEpoch year month day
 unfolding daysSinceEpoch
 days-sum year month day before h e =
     let k = known year month day h in
@@ -125,4 +129,11 @@ unfolding daysSinceEpoch daysBeforeMonth
 days-small year month day h =
     let k = known year month day h in
     let before = days-before (isLeapYear year) month (k .month) in
-    omega (arith, days-of-years (year - 1970) (omega arith), before, before-small month (k .month), byte-small (isLeapYear year && ltb 2 month))
+    omega (
+      arith,
+      days-of-years (year - 1970) (omega arith),
+      before,
+      before-small month (k .month),
+      byte-small
+          (isLeapYear year && ltb 2 month),
+    )

@@ -52,7 +52,8 @@ shifted a (pos (suc b)) h =
       same = rw e (go (ltb a (suc b)) refl);
     }
   where
-    go : (t : Bool) → ltb a (suc b) ≡ t → (a + 33120 - suc b) % 1440 ≡ modulo (cond t (negsuc (suc b - suc a)) (pos (a - suc b))) 1440
+    go : (t : Bool) → ltb a (suc b) ≡ t
+        → (a + 33120 - suc b) % 1440 ≡ modulo (cond t (negsuc (suc b - suc a)) (pos (a - suc b))) 1440
     go true e = omega (arith, ltb-true a (suc b) e)
     go false e = omega (arith, ltb-false a (suc b) e)
 shifted a (negsuc b) h = record { above = tt; small = omega arith; same = omega arith }

@@ -3,7 +3,8 @@ use clock_time::Error;
 ghost use mathlib.Core.Path.{_≡_};
 ghost use mathlib.Core.Bool.{true};
 ghost use Prim.Native.Nat.{_+_, _≤_, _<_};
-ghost use Rattle.calendar.specs.Date.{isLeapYear, daysInMonth, dateExists, fullYear, knownDate, daysBeforeMonth, daysSinceEpoch, dayNumber, weekdayOf, dateAnswer};
+ghost use Rattle.calendar.specs.Date.{isLeapYear, daysInMonth, dateExists, fullYear, knownDate};
+ghost use Rattle.calendar.specs.Date.{daysBeforeMonth, daysSinceEpoch, dayNumber, weekdayOf, dateAnswer};
 
 // A number worked out from a date, or the error.
 pub enum DateAnswer {

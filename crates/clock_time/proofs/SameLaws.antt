@@ -125,7 +125,8 @@ samePosition-refl a = simp (eqℤ-refl, eqb-refl)
 pub samePosition-true : (a b : Position) → samePosition a b ≡ true → a ≡ b
 unfolding samePosition
 samePosition-true a b h =
-    let w = both (eqℤ (a .latitude) (b .latitude) && eqℤ (a .longitude) (b .longitude)) (eqb (a .height) (b .height)) h in
+    let w = both (eqℤ (a .latitude) (b .latitude) && eqℤ (a .longitude) (b .longitude))
+    (eqb (a .height) (b .height)) h in
     let v = both (eqℤ (a .latitude) (b .latitude)) (eqℤ (a .longitude) (b .longitude)) (w .0) in
     λ i.
     record {

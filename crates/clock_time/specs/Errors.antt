@@ -5,7 +5,8 @@ use mathlib.Core.List.{List, [], _∷_}
 use Rattle.clock_time.specs.declared.Error.{Error}
 use Rattle.clock_time.specs.declared.Error.the-variants.{Length, FixedByte, NotDigit, FlagLetter, NoSuchDate}
 use Rattle.clock_time.specs.declared.Error.the-variants.{NoSuchTime, Weekday, UtcOffset, Position, NoEarlierGap}
-use Rattle.clock_time.specs.declared.Error.the-variants.{RunLength, UnsureMark, StartMark, ZoneMarks, MinuteParity}
+use Rattle.clock_time.specs.declared.Error.the-variants.{RunLength, UnsureMark, StartMark, ZoneMarks}
+use Rattle.clock_time.specs.declared.Error.the-variants.{MinuteParity}
 use Rattle.clock_time.specs.declared.Error.the-variants.{HourParity, DateParity, DecimalDigit, LeapMinute}
 use Rattle.clock_time.specs.declared.Error.the-variants.{LentMemory, Place, NewMark, Unrepresentable}
 

@@ -1,4 +1,5 @@
--- Writing by reading back, for any format whose text is what was read: the candidate is the only string that can be read as
+-- Writing by reading back, for any format whose text is what was read: the candidate is the only string that can be
+-- read as
 -- a value. Assumes nothing.
 use Prim.Native.Nat.{ℕ, _≤_}
 use native.Mathlib.Omega.{arith}
@@ -40,7 +41,8 @@ module _
     unfolding writeText
     written-back s a h d room = rw (reads-back s a h, text-read s a h) (sym (writing-room s d room))
 
-    pub refused-back : (a : A) (d : List ℕ) → (writeText f a d .answer ≡ refused 23) ↔ ((s : List ℕ) → readText f s ≡ accepted a → ⊥)
+    pub refused-back : (a : A) (d : List ℕ)
+        → (writeText f a d .answer ≡ refused 23) ↔ ((s : List ℕ) → readText f s ≡ accepted a → ⊥)
     unfolding writeText
     refused-back a d = (
       λ e s h. writing-not-23 (f .text a) d (rw (reads-back s a h) at e),

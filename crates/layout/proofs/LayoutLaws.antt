@@ -15,7 +15,8 @@ use borrow.Author.Tests.{eq-eqb, ne-eqb, eqb-true, eqb-false, lt-ltb, le-ltb, lt
 use Rattle.clock_time.proofs.Tests.{both}
 use Rattle.decimal.specs.Decimal.{isDigit, firstNonDigit}
 use Rattle.decimal.proofs.DecimalLaws.{value-below}
-use Rattle.layout.specs.Layout.{digit, allowed, errorAt, offence, fitsFrom, first, found, Fault, fault, checkLayout}
+use Rattle.layout.specs.Layout.{digit, allowed, errorAt, offence, fitsFrom, first, found, Fault, fault}
+use Rattle.layout.specs.Layout.{checkLayout}
 use Rattle.layout.specs.Layout.{FitsLayout, run, number}
 
 -- ---- one place after the other
@@ -24,7 +25,8 @@ module _ (l s : List ℕ) (i : ℕ) (hl : i < length l) (hs : i < length s) wher
   unfolding first
   first-here k e = rw (drop-cons l i 0 hl, drop-cons s i 0 hs) (rw (eq-eqb _ _ e))
 
-  pub first-later : (k : ℕ) → (offence (getD l i 0) (getD s i 0) ≡ k → ⊥) → first k (drop i l) (drop i s) ≡ suc (first k (drop (i + 1) l) (drop (i + 1) s))
+  pub first-later : (k : ℕ) → (offence (getD l i 0) (getD s i 0) ≡ k → ⊥)
+      → first k (drop i l) (drop i s) ≡ suc (first k (drop (i + 1) l) (drop (i + 1) s))
   unfolding first
   first-later k e = rw (add-one, drop-cons l i 0 hl, drop-cons s i 0 hs) (rw (ne-eqb _ _ e))
 
@@ -38,7 +40,8 @@ error-three : (p : ℕ) → (errorAt p ≡ 2) ⊎ ((errorAt p ≡ 3) ⊎ (errorA
 unfolding errorAt
 error-three p = go (ltb p 256) (eqb p digit)
   where
-    go : (a b : Bool) → (cond {A = ℕ} a 2 (cond b 3 4) ≡ 2) ⊎ ((cond {A = ℕ} a 2 (cond b 3 4) ≡ 3) ⊎ (cond {A = ℕ} a 2 (cond b 3 4) ≡ 4))
+    go : (a b : Bool) → (cond {A = ℕ} a 2 (cond b 3 4) ≡ 2) ⊎ ((cond {A = ℕ} a 2 (cond b 3 4) ≡ 3) ⊎ (cond {A = ℕ} a 2
+        (cond b 3 4) ≡ 4))
     go true b = inl refl
     go false true = inr (inl refl)
     go false false = inr (inr refl)
@@ -51,7 +54,8 @@ offence-some : (p b : ℕ) → allowed p b ≡ false → offence p b ≡ errorAt
 unfolding offence
 offence-some p b e = rw e
 
-fits-first : (k : ℕ) → 0 < k → (l s : List ℕ) → length l ≡ length s → ((i : ℕ) → i < length l → allowed (getD l i 0) (getD s i 0) ≡ true) → length l ≤ first k l s
+fits-first : (k : ℕ) → 0 < k → (l s : List ℕ) → length l ≡ length s
+    → ((i : ℕ) → i < length l → allowed (getD l i 0) (getD s i 0) ≡ true) → length l ≤ first k l s
 unfolding first
 fits-first k h [] s e f = omega arith
 fits-first k h (p ∷ l) [] e f = absurd (omega arith)
@@ -64,7 +68,8 @@ later true m n h = absurd (omega arith)
 later false m n h = (refl, omega arith)
 
 -- where no place has one of the three numbers, each has a byte that may stand there
-all-allowed : (l s : List ℕ) → length l ≡ length s → length l ≤ first 2 l s → length l ≤ first 3 l s → length l ≤ first 4 l s
+all-allowed : (l s : List ℕ) → length l ≡ length s → length l ≤ first 2 l s → length l ≤ first 3 l s
+    → length l ≤ first 4 l s
     → (i : ℕ) → i < length l → allowed (getD l i 0) (getD s i 0) ≡ true
 unfolding first
 all-allowed [] s e f g h i j = absurd (omega arith)
@@ -74,10 +79,13 @@ all-allowed (p ∷ l) (b ∷ s) e f g h zero j = go (allowed p b) refl
     go : (t : Bool) → allowed p b ≡ t → t ≡ true
     go true q = refl
     go false q = ⊎-elim
-        (λ z. absurd (eqb-false _ _ (later (eqb (offence p b) 2) (length l) (first 2 l s) f .0) (offence-some p b q ∙ z)))
+        (λ z. absurd (eqb-false _ _ (later (eqb (offence p b) 2) (length l) (first 2 l s) f .0)
+        (offence-some p b q ∙ z)))
         (⊎-elim
-        (λ z. absurd (eqb-false _ _ (later (eqb (offence p b) 3) (length l) (first 3 l s) g .0) (offence-some p b q ∙ z)))
-        (λ z. absurd (eqb-false _ _ (later (eqb (offence p b) 4) (length l) (first 4 l s) h .0) (offence-some p b q ∙ z))))
+        (λ z. absurd (eqb-false _ _ (later (eqb (offence p b) 3) (length l) (first 3 l s) g .0)
+        (offence-some p b q ∙ z)))
+        (λ z. absurd (eqb-false _ _ (later (eqb (offence p b) 4) (length l) (first 4 l s) h .0)
+        (offence-some p b q ∙ z))))
         (error-three p)
 all-allowed (p ∷ l) (b ∷ s) e f g h (suc i) j =
     all-allowed l s (omega arith)
@@ -89,11 +97,17 @@ all-allowed (p ∷ l) (b ∷ s) e f g h (suc i) j =
 pub fits-found : (k : ℕ) → 0 < k → {l s : List ℕ} → FitsLayout l s → found k l s ≡ false
 fits-found k h {l} {s} f = le-ltb _ _ (fits-first k h l s (f .long) (f .at))
 
-pub none-found : (l s : List ℕ) → length l ≡ length s → found 2 l s ≡ false → found 3 l s ≡ false → found 4 l s ≡ false → FitsLayout l s
-none-found l s e f g h = record { long = e; at = all-allowed l s e (ltb-false _ _ f) (ltb-false _ _ g) (ltb-false _ _ h) }
+pub none-found : (l s : List ℕ) → length l ≡ length s → found 2 l s ≡ false → found 3 l s ≡ false
+    → found 4 l s ≡ false → FitsLayout l s
+none-found l s e f g h = record {
+  long = e;
+  at = all-allowed l s e (ltb-false _ _ f) (ltb-false _ _ g)
+      (ltb-false _ _ h);
+}
 
 -- the test of all places at once
-from-true : (t : Bool) (i : ℕ) (l s : List ℕ) → fitsFrom t i l s ≡ true → (t ≡ true) × ((k : ℕ) → k < length l → allowed (getD l k 0) (getD s (i + k) 0) ≡ true)
+from-true : (t : Bool) (i : ℕ) (l s : List ℕ) → fitsFrom t i l s ≡ true
+    → (t ≡ true) × ((k : ℕ) → k < length l → allowed (getD l k 0) (getD s (i + k) 0) ≡ true)
 unfolding fitsFrom
 from-true t i [] s h = (h, λ k j. absurd (omega arith))
 from-true t i (p ∷ l) s h =
@@ -142,7 +156,8 @@ module _ (l s : List ℕ) (e : length l ≡ length s) where
   unfolding checkLayout
   fault-digit f g = simp (eq-eqb (length l) (length s) e, f, g)
 
-  pub fault-flag : found 2 l s ≡ false → found 3 l s ≡ false → found 4 l s ≡ true → checkLayout l s ≡ fault 4 (first 4 l s)
+  pub fault-flag : found 2 l s ≡ false → found 3 l s ≡ false → found 4 l s ≡ true
+      → checkLayout l s ≡ fault 4 (first 4 l s)
   unfolding checkLayout
   fault-flag f g h = simp (eq-eqb (length l) (length s) e, f, g, h)
 
@@ -156,7 +171,8 @@ unfolding checkLayout
 check-fits l s h = go (eqb (length l) (length s)) (found 2 l s) (found 3 l s) (found 4 l s) refl refl refl refl h
   where
     go : (a b c d : Bool) → eqb (length l) (length s) ≡ a → found 2 l s ≡ b → found 3 l s ≡ c → found 4 l s ≡ d
-        → fault 0 0 ≡ cond a (cond b (fault 2 (first 2 l s)) (cond c (fault 3 (first 3 l s)) (cond d (fault 4 (first 4 l s)) (fault 0 0)))) (fault 1 0)
+        → fault 0 0 ≡ cond a (cond b (fault 2 (first 2 l s)) (cond c (fault 3 (first 3 l s)) (cond d (fault 4 (first 4
+        l s)) (fault 0 0)))) (fault 1 0)
         → FitsLayout l s
     go false b c d e f g i h = absurd (omega (arith, ap (λ (x : Fault). x .number) h))
     go true true c d e f g i h = absurd (omega (arith, ap (λ (x : Fault). x .number) h))
@@ -177,7 +193,8 @@ allDigits (p ∷ l) = eqb p digit && allDigits l
 
 module _ {l s : List ℕ} (h : FitsLayout l s) where
   -- digits stand at digit places
-  pub run-digits : (n at : ℕ) → at + n ≤ length l → allDigits (run at n l) ≡ true → firstNonDigit (run at n s) ≡ length (run at n s)
+  pub run-digits : (n at : ℕ) → at + n ≤ length l → allDigits (run at n l) ≡ true
+      → firstNonDigit (run at n s) ≡ length (run at n s)
   unfolding firstNonDigit allowed
   run-digits zero at room d = refl
   run-digits (suc n) at room d =

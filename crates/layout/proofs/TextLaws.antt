@@ -21,12 +21,16 @@ laterChecks f s =
     ∷ clockChecks (f .clock (f .fields s)) (f .mismatch s)
 
 -- the check of the layout comes first, and its number is given
-pub read-layout : {A : Type 0} (f : Format A) (s : List ℕ) → readText f s ≡ cond (eqb (checkLayout (f .layout) s .number) 0) (checked (laterChecks f s) (f .fields s)) (refused (checkLayout (f .layout) s .number))
+pub read-layout : {A : Type 0} (f : Format A) (s : List ℕ)
+    → readText f s ≡ cond (eqb (checkLayout (f .layout) s .number) 0) (checked (laterChecks f s) (f .fields s))
+    (refused (checkLayout (f .layout) s .number))
 unfolding readText textChecks checkLayout
-read-layout {A} f s = go (eqb (length (f .layout)) (length s)) (found 2 (f .layout) s) (found 3 (f .layout) s) (found 4 (f .layout) s)
+read-layout {A} f s = go (eqb (length (f .layout)) (length s)) (found 2 (f .layout) s) (found 3 (f .layout) s)
+    (found 4 (f .layout) s)
   where
     rest : List Check
-    rest = given 8 (f .offsetFault s) ∷ given 9 (f .positionFault s) ∷ clockChecks (f .clock (f .fields s)) (f .mismatch s)
+    rest = given 8 (f .offsetFault s) ∷ given 9 (f .positionFault s) ∷ clockChecks (f .clock (f .fields s))
+        (f .mismatch s)
 
     number : Bool → Bool → Bool → Bool → ℕ
     number a b c d =
@@ -35,7 +39,10 @@ read-layout {A} f s = go (eqb (length (f .layout)) (length s)) (found 2 (f .layo
         (cond c (fault 3 (first 3 (f .layout) s)) (cond d (fault 4 (first 4 (f .layout) s)) (fault 0 0))))
         (fault 1 0)) .number
 
-    go : (a b c d : Bool) → checked (given 1 (not a) ∷ given 2 b ∷ given 3 c ∷ given 4 (d || f .flagFault s) ∷ rest) (f .fields s) ≡ cond (eqb (number a b c d) 0) (checked (given 4 (f .flagFault s) ∷ rest) (f .fields s)) (refused (number a b c d))
+    go : (a b c d : Bool)
+        → checked (given 1 (not a) ∷ given 2 b ∷ given 3 c ∷ given 4 (d || f .flagFault s) ∷ rest) (f .fields s) ≡
+        cond (eqb (number a b c d) 0) (checked (given 4 (f .flagFault s) ∷ rest) (f .fields s))
+        (refused (number a b c d))
     go false b c d = refl
     go true true c d = refl
     go true false true d = refl

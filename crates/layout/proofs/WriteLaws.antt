@@ -1,4 +1,5 @@
--- Laws for writing by a layout: a string that fits is its layout's fixed bytes and its own bytes at the open places, and
+-- Laws for writing by a layout: a string that fits is its layout's fixed bytes and its own bytes at the open places,
+-- and
 -- digits and letters are written as they were read. Assumes nothing.
 use Prim.Native.Nat.{ℕ, zero, suc, _+_, _-_, _/_, _%_, _≤_, _<_}
 use Prim.Native.Char.{Char, code}
@@ -31,7 +32,8 @@ fixed-byte p b h = go (ltb p 256) refl h
     go true e h = sym (eqb-true b p (rw e at h))
     go false e h = refl
 
-restored : (l s : List ℕ) (i : ℕ) → i + length l ≡ length s → ((k : ℕ) → k < length l → allowed (getD l k 0) (getD s (i + k) 0) ≡ true) → restore i l s ≡ drop i s
+restored : (l s : List ℕ) (i : ℕ) → i + length l ≡ length s
+    → ((k : ℕ) → k < length l → allowed (getD l k 0) (getD s (i + k) 0) ≡ true) → restore i l s ≡ drop i s
 restored [] s i e f = let h : length s ≤ i = omega arith in sym (drop-of-length-le s h)
 restored (p ∷ l) s i e f =
     let h : i < length s = omega arith in
@@ -39,7 +41,8 @@ restored (p ∷ l) s i e f =
     rw (drop-cons s i 0 h, fixed-byte p (getD s i 0) here)
     (ap (λ (t : List ℕ). getD s i 0 ∷ t) (restored l s (suc i) (omega arith) (λ k j. next k (f (suc k) (omega arith)))))
   where
-    next : (k : ℕ) → allowed (getD l k 0) (getD s (i + suc k) 0) ≡ true → allowed (getD l k 0) (getD s (suc i + k) 0) ≡ true
+    next : (k : ℕ) → allowed (getD l k 0) (getD s (i + suc k) 0) ≡ true
+        → allowed (getD l k 0) (getD s (suc i + k) 0) ≡ true
     next k a = let e : i + suc k ≡ suc i + k = omega arith in rw e at a
 
 pub restore-fits : {l s : List ℕ} → FitsLayout l s → restore 0 l s ≡ s
@@ -54,12 +57,14 @@ year-digits n h =
     rw (tens, ones)
 
 module _ {l s : List ℕ} (h : FitsLayout l s) where
-  pub digits-number : (n at : ℕ) → at + n ≤ length l → allDigits (run at n l) ≡ true → digits n (number n at s) ≡ run at n s
+  pub digits-number : (n at : ℕ) → at + n ≤ length l → allDigits (run at n l) ≡ true
+      → digits n (number n at s) ≡ run at n s
   digits-number n at room d =
       rw (length-run h n at) at (digits-value (run at n s) (run-digits h n at room d))
 
   -- a year's last two digits are those that were read
-  pub digits-year : (at : ℕ) → at + 2 ≤ length l → allDigits (run at 2 l) ≡ true → digits 2 (fullYear (number 2 at s)) ≡ run at 2 s
+  pub digits-year : (at : ℕ) → at + 2 ≤ length l → allDigits (run at 2 l) ≡ true
+      → digits 2 (fullYear (number 2 at s)) ≡ run at 2 s
   digits-year at room d = year-digits (number 2 at s) (number-below h 2 at room d) ∙ digits-number 2 at room d
 
 -- ---- letters
@@ -73,7 +78,8 @@ module _ (P : ℕ → Type 0) (b : ℕ) where
       go false true e f h = subst P (sym (eqb-true _ _ f)) set
       go false false e f h = absurd (false≢true h)
 
-  pub either-all : (c d : Char) → P 32 → P (code c) → P (code d) → (eqb b 32 || eqb b (code c) || eqb b (code d)) ≡ true → P b
+  pub either-all : (c d : Char) → P 32 → P (code c) → P (code d)
+      → (eqb b 32 || eqb b (code c) || eqb b (code d)) ≡ true → P b
   either-all c d blank first second h = go (eqb b 32) (eqb b (code c)) (eqb b (code d)) refl refl refl h
     where
       go : (t u v : Bool) → eqb b 32 ≡ t → eqb b (code c) ≡ u → eqb b (code d) ≡ v → (t || u || v) ≡ true → P b

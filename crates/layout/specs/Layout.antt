@@ -38,7 +38,8 @@ allowed p b =
     (cond (eqb p free) true
     (cond (ltb p 65536) (eqb b 32 || eqb b (p % 256)) (eqb b 32 || eqb b (p / 256 % 256) || eqb b (p % 256)))))
 
--- "2 a fixed byte differs", "3 no digit in a digit place", "4 a flag place holds another character" (01, Refusal numbers)
+-- "2 a fixed byte differs", "3 no digit in a digit place", "4 a flag place holds another character" (01, Refusal
+-- numbers)
 unfoldable pub errorAt : ℕ → ℕ
 errorAt p = cond (ltb p 256) 2 (cond (eqb p digit) 3 4)
 

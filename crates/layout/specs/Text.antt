@@ -14,7 +14,8 @@ use Rattle.layout.specs.Layout.{found}
 use Rattle.layout.specs.declared.ReadAnswer.{ReadAnswer}
 use Rattle.layout.specs.declared.ReadAnswer.the-variants.{Read, Refused}
 
--- A format: its layout, what its fields say, its own faults beyond those that all formats share; and the only string that
+-- A format: its layout, what its fields say, its own faults beyond those that all formats share; and the only string
+-- that
 -- could be read as a value, with the test that two values are the same.
 pub record Format (A : Type 0) : Type 0 where
   pub layout : List ℕ
@@ -54,7 +55,8 @@ abbrev pub isAccepted : {A : Type 0} → (A → A → Bool) → Answer A → A �
 isAccepted same (accepted b) a = same b a
 isAccepted same (refused k) a = false
 
--- "23: reading that no accepted string or minute of this format gives" (01, Refusal numbers): its text is not read as it
+-- "23: reading that no accepted string or minute of this format gives" (01, Refusal numbers): its text is not read as
+-- it
 unfoldable pub readsBack : {A : Type 0} → Format A → A → Bool
 readsBack f a = isAccepted (f .same) (readText f (f .text a)) a
 

@@ -23,7 +23,8 @@ zone-back b h = either-all (λ x. zoneLetter (standardZone x) (eqb x (code "S"))
 announced-back : (b : ℕ) → (eqb b 32 || eqb b (code "!") || eqb b (code "A")) ≡ true
     → announcedLetter (eqb b (code "!")) (eqb b (code "A")) ≡ b
 unfolding announcedLetter
-announced-back b h = either-all (λ x. announcedLetter (eqb x (code "!")) (eqb x (code "A")) ≡ x) b "!" "A" refl refl refl h
+announced-back b h = either-all
+    (λ x. announcedLetter (eqb x (code "!")) (eqb x (code "A")) ≡ x) b "!" "A" refl refl refl h
 
 pub standard-back : (s : List ℕ) → FitsLayout standardLayout s → standardText (standardFields s) ≡ s
 unfolding standardText standardFields standardLayout ascii allowed

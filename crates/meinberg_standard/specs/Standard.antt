@@ -16,7 +16,8 @@ use Rattle.layout.specs.Ascii.{ascii}
 use Rattle.layout.specs.Layout.{digit, flag, either, places, number, has}
 use Rattle.layout.specs.Text.{Format, readText, writeText, letter}
 
--- "`STX D:dd.mm.yy;T:w;U:hh.mm.ss;uvxy ETX` [..] The time has dots: 002 shows colons in the layout, dots in its pattern.
+-- "`STX D:dd.mm.yy;T:w;U:hh.mm.ss;uvxy ETX` [..] The time has dots: 002 shows colons in the layout, dots in its
+-- pattern.
 -- Dots hold." (01, Meinberg and ELV strings)
 unfoldable pub standardLayout : List ℕ
 standardLayout =

@@ -9,7 +9,8 @@ ghost use lib.ListN.{length};
 ghost use Rattle.layout.specs.Layout.{FitsLayout, fitsFrom, checkLayout, layoutFault};
 ghost use Rattle.layout.specs.Text.{readAnswer};
 ghost use Rattle.meinberg_standard.specs.Standard.{standardLayout, standardZone, standardFields, readStandard};
-ghost use Rattle.meinberg_standard.specs.Standard.{zoneLetter, announcedLetter, lineOf, standardText, writeStandard};
+ghost use Rattle.meinberg_standard.specs.Standard.{zoneLetter, announcedLetter, lineOf, standardText};
+ghost use Rattle.meinberg_standard.specs.Standard.{writeStandard};
 ghost use Rattle.clock_time.specs.Writing.{outcome};
 
 // The layout, as the definition `standardLayout` has it.
@@ -245,7 +246,8 @@ fn line_of(t: ClockTime) -> [u8; 32]
     line_with(t, u, v, x, y)
 }
 
-// Writes a clock time as a Meinberg standard string to the front of `out`: 23 where no such string is read as it, 20 where
+// Writes a clock time as a Meinberg standard string to the front of `out`: 23 where no such string is read as it, 20
+// where
 // there is no room for 32 bytes.
 pub fn write_standard(t: ClockTime, out: &mut [u8]) -> WriteAnswer
     ensures { λ r. ⌜ outcome r (now (out .exit)) ≡ writeStandard t (now (out .entry)) ⌝ }

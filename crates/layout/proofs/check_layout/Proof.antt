@@ -28,7 +28,8 @@ returns-4 c =
     let first = c .before .first-offence3 .ensures in
     let fixed = rw (b .before .first-offence .ensures) at (le-ltb _ _ (b .if2 .left)) in
     let digit = rw (d .before .first-offence2 .ensures) at (le-ltb _ _ (d .if3 .left)) in
-    rw first (sym (fault-flag _ _ (b .before .before .if1 .left) fixed digit (rw first at (lt-ltb _ _ (c .if4 .taken)))))
+    rw first (sym (fault-flag _ _ (b .before .before .if1 .left) fixed digit
+    (rw first at (lt-ltb _ _ (c .if4 .taken)))))
 
 returns-5 : tie.Need-returns-5
 returns-5 c =

@@ -1,4 +1,5 @@
--- `layout::first_offence` meets its contract. The invariant: the first place of the whole is `i` past the first of what is left. Assumes nothing.
+-- `layout::first_offence` meets its contract. The invariant: the first place of the whole is `i` past the first of what
+-- is left. Assumes nothing.
 use borrow.Author.Needs.{needs}
 use native.Mathlib.Omega.{arith}
 use Prim.Native.Nat.{_+_, _-_, _≤_}

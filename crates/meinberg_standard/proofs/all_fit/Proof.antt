@@ -12,15 +12,24 @@ use Rattle.meinberg_standard.proofs.all_fit.Tie as tie
 
 returns : tie.Need-returns
 unfolding fitsFrom allowed isDigit ascii standardLayout
-returns c = sym (fits-stops 11 standardLayout (now (c .before .before .before .before .before .before .before .before .before .before .before .before .before .before .before .before .before .before .args .s)) (c .if1 .taken))
+returns c = sym (fits-stops 11 standardLayout
+    (now (c .before .before .before .before .before .before .before .before .before .before .before .before .before
+    .before .before .before .before .before .args .s)) (c .if1 .taken))
 
 returns-2 : tie.Need-returns-2
 unfolding fitsFrom allowed isDigit ascii standardLayout
-returns-2 c = sym (fits-stops 18 standardLayout (now (c .before .before .before .before .before .before .before .before .before .before .before .before .before .before .before .before .before .before .before .before .before .before .before .before .before .before .before .args .s)) (c .if2 .taken))
+returns-2 c = sym (fits-stops 18 standardLayout
+    (now (c .before .before .before .before .before .before .before .before .before .before .before .before .before
+    .before .before .before .before .before .before .before .before .before .before .before .before .before .before
+    .args .s)) (c .if2 .taken))
 
 returns-3 : tie.Need-returns-3
 unfolding fitsFrom allowed isDigit ascii standardLayout
-returns-3 c = sym (fits-stops 27 standardLayout (now (c .before .before .before .before .before .before .before .before .before .before .before .before .before .before .before .before .before .before .before .before .before .before .before .before .before .before .before .before .before .before .before .before .before .before .before .before .before .before .before .before .before .before .before .args .s)) (c .if3 .taken))
+returns-3 c = sym (fits-stops 27 standardLayout
+    (now (c .before .before .before .before .before .before .before .before .before .before .before .before .before
+    .before .before .before .before .before .before .before .before .before .before .before .before .before .before
+    .before .before .before .before .before .before .before .before .before .before .before .before .before .before
+    .before .before .args .s)) (c .if3 .taken))
 
 returns-4 : tie.Need-returns-4
 unfolding fitsFrom allowed isDigit ascii standardLayout

@@ -10,7 +10,12 @@ unfolding writeStandard writeText readsBack readStandard standard
 returns c =
     let w = c .before .before in
     let r = w .before .before .before in
-    rw (← (r .before .before .before .line-of .ensures), ← (r .before .read-standard .ensures), ← (r .is-read-as .ensures))
+    rw (
+      ← (r .before .before .before .line-of .ensures),
+      ← (r .before .read-standard .ensures),
+      ←
+          (r .is-read-as .ensures),
+    )
     (w .write-bytes .ensures)
 
 pub write-standard-spec : {M : Type 1} → statement M

@@ -1,4 +1,5 @@
--- `calendar::date::days_before_month` meets its contract: the table of a common year, with the leap day. Assumes nothing.
+-- `calendar::date::days_before_month` meets its contract: the table of a common year, with the leap day. Assumes
+-- nothing.
 use borrow.Author.Needs.{needs}
 use native.Mathlib.Omega.{arith}
 use mathlib.Core.Bool.{_&&_}

@@ -1,4 +1,5 @@
--- `calendar::date::days_in_month` meets its contract: the table of a common year, and February by itself. Assumes nothing.
+-- `calendar::date::days_in_month` meets its contract: the table of a common year, and February by itself. Assumes
+-- nothing.
 use borrow.Author.Needs.{needs}
 use native.Mathlib.Omega.{arith}
 use mathlib.Core.Path.{sym, _∙_}
@@ -15,7 +16,8 @@ add-result c = omega (arith, byte-small (c .is-leap-year .result))
 
 returns-2 : tie.Need-returns-2
 unfolding daysInMonth
-returns-2 c = rw (c .before .if2 .taken, c .is-leap-year .ensures) (february-length (isLeapYear (c .before .before .before .args .year)))
+returns-2 c = rw (c .before .if2 .taken, c .is-leap-year .ensures)
+    (february-length (isLeapYear (c .before .before .before .args .year)))
 
 returns-3 : tie.Need-returns-3
 unfolding daysInMonth

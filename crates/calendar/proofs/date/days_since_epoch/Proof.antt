@@ -1,4 +1,5 @@
--- `calendar::date::days_since_epoch` meets its contract: every fourth year from 1972 on has a leap day. Assumes nothing.
+-- `calendar::date::days_since_epoch` meets its contract: every fourth year from 1972 on has a leap day. Assumes
+-- nothing.
 use borrow.Author.Needs.{needs}
 use native.Mathlib.Omega.{arith}
 use Rattle.calendar.proofs.DateLaws.{known, days-sum, days-small}

@@ -1,4 +1,5 @@
--- `calendar::time_of_day::utc_minute` meets its contract: the shifted difference is above zero and has the same remainder. Assumes nothing.
+-- `calendar::time_of_day::utc_minute` meets its contract: the shifted difference is above zero and has the same
+-- remainder. Assumes nothing.
 use borrow.Author.Needs.{needs}
 use native.Mathlib.Omega.{arith}
 use Prim.Native.Nat.{_+_, _*_, _<_, _^_}
@@ -23,7 +24,9 @@ sub-shifted c =
     rw (toZ-pos w32 h, widened w32 tt f)
     (record { sfits = difference-size local (c .args .offset) (2 ^ 31) (omega (arith, f .sfits)) })
 
-held : (c : tie.Start) → toZ w32 (ofZ w32 (toZ w32 (60 * c .args .hour + c .args .minute + 33120) -ℤ toZ w32 (ofZ w32 (toZ w16 (ofZ w16 (c .args .offset)))))) ≡ pos (60 * c .args .hour + c .args .minute + 33120) -ℤ c .args .offset
+held : (c : tie.Start)
+    → toZ w32 (ofZ w32 (toZ w32 (60 * c .args .hour + c .args .minute + 33120) -ℤ toZ w32 (ofZ w32 (toZ w16 (ofZ w16
+    (c .args .offset)))))) ≡ pos (60 * c .args .hour + c .args .minute + 33120) -ℤ c .args .offset
 held c =
     let h : 60 * c .args .hour + c .args .minute + 33120 < 2 ^ 31 = omega arith in
     toZ-ofZ (sub-shifted c) ∙ rw (toZ-pos w32 h, widened w32 tt (c .fits .offset))

@@ -3,3 +3,4 @@ pub mod ErrorLaws
 pub mod SameLaws
 pub mod Tests
 pub mod WritingLaws
+pub mod BackLaws

@@ -1,6 +1,6 @@
 -- What a writer does to the buffer lent to it. Assumes nothing.
 use Prim.Native.Nat.{ℕ}
-use mathlib.Core.Bool.{Bool, cond, not}
+use mathlib.Core.Bool.{Bool, false, cond, not}
 use mathlib.Core.List.{List, [], _∷_, _++_}
 use lib.Dec.{ltb}
 use lib.ListN.{length, drop}
@@ -32,3 +32,16 @@ unfoldable pub writing : Bool → List ℕ → List ℕ → Outcome
 writing readable bytes buffer =
     leaves bytes buffer
     (checked (given 23 (not readable) ∷ given 20 (ltb (length buffer) (length bytes)) ∷ []) (length bytes))
+
+-- the answer is this value
+abbrev pub isAccepted : {A : Type 0} → (A → A → Bool) → Answer A → A → Bool
+isAccepted same (accepted b) a = same b a
+isAccepted same (refused k) a = false
+
+-- "23 reading that no accepted string or minute of this format gives" (01, Refusal numbers): `text` makes the only
+-- candidate, and it is not read as this value
+unfoldable pub readsBack : {A : Type 0} → (List ℕ → Answer A) → (A → List ℕ) → (A → A → Bool) → A → Bool
+readsBack read text same a = isAccepted same (read (text a)) a
+
+unfoldable pub writeBack : {A : Type 0} → (List ℕ → Answer A) → (A → List ℕ) → (A → A → Bool) → A → List ℕ → Outcome
+writeBack read text same a buffer = writing (readsBack read text same a) (text a) buffer

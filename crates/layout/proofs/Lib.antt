@@ -3,5 +3,4 @@ pub mod LayoutLaws
 pub mod TextLaws
 pub mod AcceptLaws
 pub mod WriteLaws
-pub mod BackLaws
 pub mod Theorems

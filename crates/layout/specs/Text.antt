@@ -1,12 +1,12 @@
 -- The rule for every time string: which strings are read, in which order errors are given. Assumes nothing.
 use Prim.Native.Nat.{ℕ}
 use Prim.Native.Char.{Char, code}
-use mathlib.Core.Bool.{Bool, false, cond, not, _&&_, _||_}
+use mathlib.Core.Bool.{Bool, cond, not, _&&_, _||_}
 use mathlib.Core.List.{List, [], _∷_}
 use lib.Dec.{leb, eqb}
 use lib.ListN.{length}
 use Rattle.clock_time.specs.Errors.{Answer, accepted, refused, errorNumber, Check, given, checked}
-use Rattle.clock_time.specs.Writing.{Outcome, writing}
+use Rattle.clock_time.specs.Writing.{Outcome, writeBack}
 use Rattle.clock_time.specs.declared.ClockTime.{ClockTime}
 use Rattle.calendar.specs.Date.{dateExists}
 use Rattle.calendar.specs.TimeOfDay.{timeExists}
@@ -50,18 +50,8 @@ textChecks f s =
 unfoldable pub readText : {A : Type 0} → Format A → List ℕ → Answer A
 readText f s = checked (textChecks f s) (f .fields s)
 
--- the answer is this value
-abbrev pub isAccepted : {A : Type 0} → (A → A → Bool) → Answer A → A → Bool
-isAccepted same (accepted b) a = same b a
-isAccepted same (refused k) a = false
-
--- "23: reading that no accepted string or minute of this format gives" (01, Refusal numbers): its text is not read as
--- it
-unfoldable pub readsBack : {A : Type 0} → Format A → A → Bool
-readsBack f a = isAccepted (f .same) (readText f (f .text a)) a
-
 unfoldable pub writeText : {A : Type 0} → Format A → A → List ℕ → Outcome
-writeText f a buffer = writing (readsBack f a) (f .text a) buffer
+writeText f a buffer = writeBack (readText f) (f .text) (f .same) a buffer
 
 -- a letter where a flag is set, else a blank
 abbrev pub letter : Bool → Char → ℕ

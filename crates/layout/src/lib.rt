@@ -7,7 +7,8 @@ ghost use Prim.Native.Nat.{_%_};
 ghost use lib.ListN.{length};
 ghost use Rattle.clock_time.specs.Errors.{checked};
 ghost use Rattle.layout.specs.Layout.{allowed, errorAt, offence, first, checkLayout, layoutFault, number};
-ghost use Rattle.layout.specs.Text.{clockChecks, readAnswer, isAccepted};
+ghost use Rattle.layout.specs.Text.{clockChecks, readAnswer};
+ghost use Rattle.clock_time.specs.Writing.{isAccepted};
 ghost use Rattle.clock_time.specs.Same.{sameTime};
 ghost use mathlib.Core.Bool.{cond};
 

@@ -22,10 +22,10 @@ accepted-exactly s t = text.accepted-exactly standard s t
 pub write-read : (s : List ℕ) (t : ClockTime) → readStandard s ≡ accepted t → (d : List ℕ) → length s ≤ length d →
     writeStandard t d ≡ record { answer = accepted (length s); buffer = s ++ drop (length s) d }
 unfolding readStandard writeStandard standard
-write-read = text.write-read standard standard-back sameTime-refl sameTime-true
+write-read = text.write-read standard (λ s r. standard-back s (r .fits)) sameTime-refl sameTime-true
 
 -- a clock time is refused with 23 exactly if no string is read as it
 pub write-refused : (t : ClockTime) (d : List ℕ) →
     (writeStandard t d .answer ≡ refused 23) ↔ ((s : List ℕ) → readStandard s ≡ accepted t → ⊥)
 unfolding readStandard writeStandard standard
-write-refused = text.write-refused standard standard-back sameTime-refl sameTime-true
+write-refused = text.write-refused standard (λ s r. standard-back s (r .fits)) sameTime-refl sameTime-true

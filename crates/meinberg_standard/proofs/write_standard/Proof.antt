@@ -1,12 +1,13 @@
 -- `meinberg_standard::write_standard` meets its contract. Assumes nothing.
 use borrow.Author.Needs.{needs}
 use Rattle.meinberg_standard.specs.Standard.{readStandard, standard, writeStandard}
-use Rattle.layout.specs.Text.{readsBack, writeText}
+use Rattle.clock_time.specs.Writing.{readsBack, writeBack}
+use Rattle.layout.specs.Text.{writeText}
 use Rattle.meinberg_standard.proofs.write_standard.Statement.{statement}
 use Rattle.meinberg_standard.proofs.write_standard.Tie as tie
 
 returns : tie.Need-returns
-unfolding writeStandard writeText readsBack readStandard standard
+unfolding writeStandard writeText writeBack readsBack readStandard standard
 returns c =
     let w = c .before .before in
     let r = w .before .before .before in

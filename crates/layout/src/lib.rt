@@ -106,7 +106,7 @@ pub fn check_layout(layout: &[u32], s: &[u8]) -> LayoutCheck
 pub fn digit_at(s: &[u8], at: usize) -> u8
     ensures { λ r. ⌜ r ≡ number 1 at (now (s .entry)) ⌝ }
 {
-    if s.len() <= at {
+    if at >= s.len() {
         return 0;
     }
     let b = s[at];

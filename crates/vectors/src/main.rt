@@ -1,11 +1,14 @@
 // Runs a table of commands: writes each line of standard input with what the library answers. Headings, which start
 // with `#`, and empty lines are only copied.
 mod dates;
+mod digits;
 mod errors;
 mod fields;
+mod flags;
 mod lines;
 mod numbers;
 mod output;
+mod text;
 mod times;
 
 use crate::output::Buffer;
@@ -21,6 +24,7 @@ fn answer(line: &[u8], out: &mut Buffer, at: usize) -> usize {
     let mut n = at;
     n = errors::answer(line, out, n);
     n = dates::answer(line, out, n);
+    n = digits::answer(line, out, n);
     times::answer(line, out, n)
 }
 

@@ -1,4 +1,4 @@
-// Decimal numbers in a line. A signed one is handled as its distance from -32,768, which is never below zero.
+// Decimal numbers in a line. A signed one is handled as its distance from the least of its type, which is never below zero.
 
 // What was read: whether there was a digit, the value, and the place after it.
 pub struct Number {
@@ -49,24 +49,25 @@ fn skip_minus(line: &[u8], at: usize) -> usize {
     at
 }
 
-// The distance from -32,768 of the number of this size; 65,536 or more where it is no i16.
-fn distance(size: u64, is_negative: bool) -> u64 {
-    if 32768 < size {
-        return 65536;
+// The distance of the number of this size from -`half`; twice `half` or more where the type does not hold it.
+fn distance(size: u64, is_negative: bool, half: u32) -> u64 {
+    let middle = half as u64;
+    if middle < size {
+        return 2 * middle;
     }
     if is_negative {
-        return 32768 - size;
+        return middle - size;
     }
-    32768 + size
+    middle + size
 }
 
 // The digits from `at` on, with a minus sign before them or none.
-pub fn read_signed(line: &[u8], at: usize) -> Number {
+pub fn read_signed(line: &[u8], at: usize, half: u32) -> Number {
     let start = skip_minus(line, at);
     let size = read(line, start);
     Number {
         is_number: size.is_number,
-        value: distance(size.value, at < start),
+        value: distance(size.value, at < start, half),
         end: size.end,
     }
 }
@@ -78,4 +79,22 @@ pub fn at_distance(value: u64) -> i16 {
         return !((32767 - n) as i16);
     }
     (n - 32768) as i16
+}
+
+// The same for an i32, of 4,294,967,296 and -2,147,483,648.
+pub fn at_long_distance(value: u64) -> i32 {
+    let n = value % 4294967296;
+    if n < 2147483648 {
+        return !((2147483647 - n) as i32);
+    }
+    (n - 2147483648) as i32
+}
+
+// The rest of the line, as the place where it starts.
+pub fn rest(line: &[u8], at: usize) -> Number {
+    Number {
+        is_number: true,
+        value: at as u64,
+        end: line.len(),
+    }
 }

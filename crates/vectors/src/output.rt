@@ -1,6 +1,8 @@
 // Text on its way to standard output: a lent buffer, and how many of its bytes are in use. Each `put` function adds
 // text, and returns how many are in use then; what finds no room is left out.
+use crate::text;
 use clock_time::Error;
+use clock_time::WriteAnswer;
 use libc::STDOUT_FILENO;
 
 pub type Buffer = [u8; 65536];
@@ -55,6 +57,18 @@ pub fn put_truth(out: &mut Buffer, n: usize, value: bool) -> usize {
 pub fn put_error(out: &mut Buffer, at: usize, e: Error) -> usize {
     let n = put_all(out, at, b"refused ");
     put_number(out, n, clock_time::error_number(e) as u64)
+}
+
+// Puts a writer's answer, and between bars the buffer that it was lent.
+pub fn put_written(out: &mut Buffer, at: usize, answer: WriteAnswer, buffer: &[u8]) -> usize {
+    let mut n = at;
+    match answer {
+        WriteAnswer::Written(count) => n = put_number(out, n, count as u64),
+        WriteAnswer::Refused(e) => n = put_error(out, n, e),
+    }
+    n = put_all(out, n, b" |");
+    n = text::put(out, n, buffer);
+    put(out, n, b'|')
 }
 
 // Writes the first n bytes of s, or all where they are fewer; false where that fails.

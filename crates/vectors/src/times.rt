@@ -5,7 +5,6 @@ use crate::output::Buffer;
 use calendar::time_of_day;
 use calendar::unix_time;
 use calendar::unix_time::UnixTime;
-use clock_time::ClockTime;
 
 fn time(line: &[u8], out: &mut Buffer, n: usize) -> usize {
     let f = Fields::read(line, b"time B B B I");
@@ -14,26 +13,6 @@ fn time(line: &[u8], out: &mut Buffer, n: usize) -> usize {
         return output::put_truth(out, n, exists);
     }
     n
-}
-
-// Eight numbers as a clock time with no flag set.
-fn clock_time_of(f: Fields) -> ClockTime {
-    ClockTime {
-        year: f.u16_at(0),
-        month: f.u8_at(1),
-        day: f.u8_at(2),
-        weekday: f.u8_at(3),
-        hour: f.u8_at(4),
-        minute: f.u8_at(5),
-        second: f.u8_at(6),
-        utc_offset: f.i16_at(7),
-        unsynchronised: false,
-        unverified: false,
-        summer_time: false,
-        dst_change_announced: false,
-        leap_second_announced: false,
-        alternate_antenna: false,
-    }
 }
 
 fn put_unix_time(out: &mut Buffer, n: usize, answer: UnixTime) -> usize {
@@ -46,7 +25,7 @@ fn put_unix_time(out: &mut Buffer, n: usize, answer: UnixTime) -> usize {
 fn unix(line: &[u8], out: &mut Buffer, n: usize) -> usize {
     let f = Fields::read(line, b"unix W B B B B B B I");
     if f.fits {
-        return put_unix_time(out, n, unix_time::unix_time(clock_time_of(f)));
+        return put_unix_time(out, n, unix_time::unix_time(f.clock_time(0)));
     }
     n
 }

@@ -1,0 +1,236 @@
+"""Document 01's rules for time strings, in plain Python: written from the paper, sharing nothing with the library.
+
+A reading is a dict; `read_KIND(bytes)` gives (0, reading) or (refusal number, None), `write_KIND(reading)` the bytes or None
+where nothing acceptable reads as the reading.
+"""
+import calendar
+from datetime import date
+
+FLAG_NAMES = ("unsynchronised", "unverified", "summer", "change", "leap", "antenna")
+FLAG_LETTERS = "#*S!AR"
+
+
+class Refused(Exception):
+    def __init__(self, number):
+        super().__init__(number)
+        self.number = number
+
+
+def reading(year, month, day, weekday, hour, minute, second, offset, flags=""):
+    """A reading with the flags whose letters of `#*S!AR` are named."""
+    fields = dict(year=year, month=month, day=day, weekday=weekday, hour=hour, minute=minute, second=second, offset=offset)
+    for name, letter in zip(FLAG_NAMES, FLAG_LETTERS):
+        fields[name] = letter in flags
+    return fields
+
+
+def date_exists(year, month, day):
+    return 1 <= month <= 12 and 1 <= day <= calendar.monthrange(max(year, 1), month)[1] if year else False
+
+
+def second_60_allowed(hour, minute, offset):
+    """'Second 60 is allowed only where (60 x hour + minute - offset) modulo 1,440 is 1,439.'"""
+    return (60 * hour + minute - offset) % 1440 == 1439
+
+
+def full_year(digits):
+    return 1900 + digits if digits >= 70 else 2000 + digits
+
+
+def is_digit(byte):
+    return 48 <= byte <= 57
+
+
+def number(s, at, count):
+    """The digits from a place on; a blank counts 0."""
+    return int("".join(chr(b) if is_digit(b) else "0" for b in s[at : at + count]))
+
+
+def places(picture, **letters):
+    """A layout from a picture: a named letter is a class, every other byte stands for itself."""
+    return [letters.get(chr(b), b) for b in picture]
+
+
+DIGIT, FREE = "digit", "free"
+
+STANDARD = places(
+    b"\x02D:dd.dd.dd;T:d;U:dd.dd.dd;uvxy\x03", d=DIGIT, u="#", v="*", x="US", y="!A"
+)
+PZF = places(b"\x02dd.dd.dd; d; dd:dd:dd; tuvxyza\x03", d=DIGIT, t="U", u="#", v="*", x="S", y="!", z="A", a="R")
+GPS = places(
+    b"\x02dd.dd.dd; d; dd:dd:dd; fdd:dd; uvxyzab; ff.fffff fff.fffff ffffm\x03",
+    d=DIGIT, f=FREE, u="#", v="*", x="S", y="!", z="A", a="R", b="L",
+)
+ELV = places(b"dd-dd-dd-dd-dd-dd-dd\r", d=DIGIT)
+
+
+def check_layout(layout, s):
+    """1, 2, 3, 4: 'Order goes by number over the whole string.'"""
+    if len(s) != len(layout):
+        raise Refused(1)
+    pairs = list(zip(layout, s))
+    if any(isinstance(p, int) and b != p for p, b in pairs):
+        raise Refused(2)
+    if any(p == DIGIT and not is_digit(b) for p, b in pairs):
+        raise Refused(3)
+    if any(isinstance(p, str) and p not in (DIGIT, FREE) and b not in (" " + p).encode() for p, b in pairs):
+        raise Refused(4)
+
+
+def check_clock(r, mismatch=False):
+    """5, 6, 7."""
+    if not date_exists(r["year"], r["month"], r["day"]):
+        raise Refused(5)
+    in_range = r["hour"] <= 23 and r["minute"] <= 59 and r["second"] <= 60
+    if not in_range or (r["second"] == 60 and not second_60_allowed(r["hour"], r["minute"], r["offset"])) or mismatch:
+        raise Refused(6)
+    if not 1 <= r["weekday"] <= 7:
+        raise Refused(7)
+
+
+def checked(read):
+    def run(s):
+        try:
+            return 0, read(bytes(s))
+        except Refused as refused:
+            return refused.number, None
+
+    return run
+
+
+@checked
+def read_standard(s):
+    check_layout(STANDARD, s)
+    u, v, x, y = (chr(b) for b in s[27:31])
+    offset = {"U": 0, "S": 120, " ": 60}[x]
+    flags = (u + v + ("S" if x == "S" else "") + y).replace(" ", "")
+    r = reading(full_year(number(s, 9, 2)), number(s, 6, 2), number(s, 3, 2), number(s, 14, 1), number(s, 18, 2),
+                number(s, 21, 2), number(s, 24, 2), offset, flags)
+    check_clock(r)
+    return r
+
+
+def pzf_clock(s, offset, flags):
+    return reading(full_year(number(s, 7, 2)), number(s, 4, 2), number(s, 1, 2), number(s, 11, 1), number(s, 14, 2),
+                   number(s, 17, 2), number(s, 20, 2), offset, flags)
+
+
+@checked
+def read_pzf(s):
+    check_layout(PZF, s)
+    t, x = chr(s[24]), chr(s[27])
+    offset = 0 if t == "U" else 120 if x == "S" else 60
+    r = pzf_clock(s, offset, s[25:31].decode().replace(" ", ""))
+    check_clock(r)
+    return r
+
+
+def whole_part(field):
+    """'right-aligned with blanks for leading zeros, the last whole digit always present, a needless zero refused'"""
+    text = bytes(field).lstrip(b" ")
+    if not text or not text.isdigit() or (len(text) > 1 and text[:1] == b"0"):
+        raise Refused(9)
+    return int(text)
+
+
+def degrees(s, at, whole, letters, limit):
+    value = whole_part(s[at : at + whole]) * 10000
+    fraction = s[at + whole + 1 : at + whole + 5]
+    hemisphere = chr(s[at + whole + 5])
+    if not all(is_digit(b) for b in fraction) or hemisphere not in letters:
+        raise Refused(9)
+    value += int(bytes(fraction))
+    if value > limit or (value == 0 and hemisphere == letters[1]):
+        raise Refused(9)
+    return -value if hemisphere == letters[1] else value
+
+
+@checked
+def read_gps(s):
+    check_layout(GPS, s)
+    sign, minutes = chr(s[24]), number(s, 28, 2)
+    size = 60 * number(s, 25, 2) + minutes
+    if sign not in "+-" or minutes > 59 or size > 840 or (sign == "-" and size == 0):
+        raise Refused(8)
+    latitude = degrees(s, 41, 2, "NS", 900000)
+    longitude = degrees(s, 50, 3, "EW", 1800000)
+    height = whole_part(s[60:64])
+    r = pzf_clock(s, -size if sign == "-" else size, s[32:38].decode().replace(" ", ""))
+    check_clock(r, mismatch=(s[38:39] == b"L") != (r["second"] == 60))
+    return dict(r, latitude=latitude, longitude=longitude, height=height)
+
+
+@checked
+def read_elv(s):
+    check_layout(ELV, s)
+    flags = number(s, 18, 2)
+    if flags > 7:
+        raise Refused(4)
+    letters = ("S" if flags & 1 else "") + ("!" if flags & 2 else "") + ("#" if flags & 4 else "")
+    r = reading(full_year(number(s, 0, 2)), number(s, 3, 2), number(s, 6, 2), 1, number(s, 9, 2), number(s, 12, 2),
+                number(s, 15, 2), 120 if flags & 1 else 60, letters)
+    if date_exists(r["year"], r["month"], r["day"]):
+        r["weekday"] = date(r["year"], r["month"], r["day"]).isoweekday()
+    check_clock(r)
+    return r
+
+
+READERS = {"standard": read_standard, "pzf": read_pzf, "gps": read_gps, "elv": read_elv}
+
+
+def kind_of(s):
+    """'66 long is GPS; 32 long is standard if place 1 holds `D`, else PZF; 21 long is ELV; any other length is refused with 1.'"""
+    if len(s) == 66:
+        return "gps"
+    if len(s) == 32:
+        return "standard" if s[1:2] == b"D" else "pzf"
+    return "elv" if len(s) == 21 else None
+
+
+def letters(r, names):
+    return "".join(FLAG_LETTERS[FLAG_NAMES.index(n)] if r[n] else " " for n in names)
+
+
+def clock_text(r, form):
+    return form.format(dd=r["day"] % 100, mm=r["month"] % 100, yy=r["year"] % 100, w=r["weekday"] % 10,
+                       hh=r["hour"] % 100, nn=r["minute"] % 100, ss=r["second"] % 100)
+
+
+def text_standard(r):
+    zone = "S" if r["summer"] else "U" if r["offset"] == 0 else " "
+    announced = "!" if r["change"] else "A" if r["leap"] else " "
+    clock = clock_text(r, "\x02D:{dd:02}.{mm:02}.{yy:02};T:{w};U:{hh:02}.{nn:02}.{ss:02};")
+    return clock + letters(r, ("unsynchronised", "unverified")) + zone + announced + "\x03"
+
+
+def text_pzf(r):
+    clock = clock_text(r, "\x02{dd:02}.{mm:02}.{yy:02}; {w}; {hh:02}:{nn:02}:{ss:02}; ")
+    return clock + ("U" if r["offset"] == 0 else " ") + letters(r, FLAG_NAMES) + "\x03"
+
+
+def text_degrees(value, whole, hemispheres):
+    size = abs(value)
+    return f"{size // 10000:{whole}}.{size % 10000:04}{hemispheres[value < 0]}"
+
+
+def text_gps(r):
+    size = abs(r["offset"])
+    clock = clock_text(r, "\x02{dd:02}.{mm:02}.{yy:02}; {w}; {hh:02}:{nn:02}:{ss:02}; ")
+    offset = f"{'-' if r['offset'] < 0 else '+'}{size // 60 % 100:02}:{size % 60:02}; "
+    flags = letters(r, FLAG_NAMES) + ("L" if r["second"] == 60 else " ")
+    place = f"{text_degrees(r['latitude'], 2, 'NS')} {text_degrees(r['longitude'], 3, 'EW')} {r['height']:4}m"
+    return clock + offset + flags + "; " + place + "\x03"
+
+
+def text_elv(r):
+    flags = r["summer"] + 2 * r["change"] + 4 * r["unsynchronised"]
+    return clock_text(r, "{yy:02}-{mm:02}-{dd:02}-{hh:02}-{nn:02}-{ss:02}-") + f"{flags:02}\r"
+
+
+TEXTS = {"standard": text_standard, "pzf": text_pzf, "gps": text_gps, "elv": text_elv}
+
+
+def write(kind, r):
+    """The bytes that read as the reading, None where nothing does: the text is the only candidate."""
+    text = TEXTS[kind](r).encode("latin-1")
+    return text if READERS[kind](text) == (0, r) else None

@@ -11,6 +11,8 @@ import random
 import sys
 from datetime import date, datetime, timedelta
 
+import string_vectors
+
 NOT_UNDERSTOOD = "?"
 NO_SUCH_DATE = "refused 5"
 NO_VALID_READING = "refused 23"
@@ -326,7 +328,8 @@ def main():
     if sys.argv[1:] not in (["stdin"], ["stdout"]):
         sys.exit(__doc__)
     check_against_document()
-    for section in SECTIONS:
+    string_vectors.check_against_document()
+    for section in (*SECTIONS, *map(with_heading, string_vectors.SECTIONS)):
         for row in section():
             if isinstance(row, str):
                 print(f"# {row}")
@@ -334,6 +337,11 @@ def main():
                 line, answer = row
                 print(line if sys.argv[1] == "stdin" else f"{line} = {answer}")
         print()
+
+
+def with_heading(named):
+    heading, section = named
+    return lambda: [heading, *section()]
 
 
 if __name__ == "__main__":

@@ -55,9 +55,11 @@ unfoldable pub dayNumber : ℕ → ℕ → ℕ → Answer ℕ
 dayNumber year month day = checked (given 5 (not (knownDate year month day)) ∷ []) (daysSinceEpoch year month day)
 
 -- "weekday (1 Monday to 7 Sunday)" (01, The reading); 1 January 1970 was a Thursday
+unfoldable pub weekdayNumber : ℕ → ℕ → ℕ → ℕ
+weekdayNumber year month day = 1 + (daysSinceEpoch year month day + 3) % 7
+
 unfoldable pub weekdayOf : ℕ → ℕ → ℕ → Answer ℕ
-weekdayOf year month day =
-    checked (given 5 (not (knownDate year month day)) ∷ []) (1 + (daysSinceEpoch year month day + 3) % 7)
+weekdayOf year month day = checked (given 5 (not (knownDate year month day)) ∷ []) (weekdayNumber year month day)
 
 abbrev pub dateAnswer : DateAnswer → Answer ℕ
 dateAnswer (Number n) = accepted n

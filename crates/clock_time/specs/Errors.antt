@@ -36,7 +36,7 @@ errorNumber Place = 21
 errorNumber NewMark = 22
 errorNumber Unrepresentable = 23
 
--- "each public entry ends with its answer or with one numbered refusal" (00, demand 1)
+-- "each public entry ends with its answer or with one numbered refusal" (demand 1)
 pub data Answer (A : Type 0) : Type 0 where
   accepted : A → Answer A
   refused : ℕ → Answer A

@@ -2,7 +2,7 @@
 use borrow.Author.Needs.{needs}
 use native.Mathlib.Omega.{arith}
 use mathlib.Core.Path.{sym, _∙_}
-use Rattle.calendar.specs.Date.{weekdayOf}
+use Rattle.calendar.specs.Date.{weekdayNumber, weekdayOf}
 use Rattle.calendar.proofs.DateLaws.{days-small}
 use Rattle.calendar.proofs.date.weekday_of.Statement.{statement}
 use Rattle.calendar.proofs.date.weekday_of.Tie as tie
@@ -17,7 +17,7 @@ add-t6 c =
     omega (arith, c .days-since-epoch .ensures, days-small _ _ _ known)
 
 returns : tie.Need-returns
-unfolding weekdayOf
+unfolding weekdayOf weekdayNumber
 returns c = simp (c .days-since-epoch .ensures, ← (c .before .before .is-known-date .ensures), c .before .if1 .taken)
 
 returns-2 : tie.Need-returns-2

@@ -1,0 +1,18 @@
+-- `elv_dcf7000::check` meets its contract. Assumes nothing.
+use borrow.Author.Needs.{needs}
+use mathlib.Core.Path.{sym, _∙_}
+use Rattle.layout.specs.Ascii.{ascii}
+use Rattle.layout.proofs.LayoutLaws.{tested-fits, fits-check}
+use Rattle.elv_dcf7000.specs.Elv.{elvLayout}
+use Rattle.elv_dcf7000.proofs.check.Statement.{statement}
+use Rattle.elv_dcf7000.proofs.check.Tie as tie
+
+returns : tie.Need-returns
+unfolding ascii elvLayout
+returns c =
+    let long = c .before .before .if1 .taken in
+    fits-check (tested-fits elvLayout _ (sym long) (sym (c .before .all-fit .ensures) ∙ c .if2 .taken))
+
+pub check-spec : {M : Type 1} → statement M
+check-spec =
+    tie.close (tie.spec (λ c κs. search needs) returns (λ c κs. search needs) (λ c. search needs))

@@ -1,0 +1,104 @@
+-- The string of an ELV DCF7000 clock, 21 bytes. Assumes nothing.
+use Prim.Native.Nat.{ℕ, _+_, _/_, _%_}
+use mathlib.Core.Bool.{Bool, false, cond}
+use mathlib.Core.List.{List, _++_}
+use lib.Dec.{eqb, ltb}
+use lib.IntN.{ℤ, pos}
+use Rattle.clock_time.specs.Errors.{Answer}
+use Rattle.clock_time.specs.Same.{sameTime}
+use Rattle.clock_time.specs.Writing.{Outcome}
+use Rattle.clock_time.specs.declared.ClockTime.{ClockTime}
+use Rattle.calendar.specs.Date.{fullYear, weekdayNumber, weekdayOf}
+use Rattle.decimal.specs.Decimal.{digits}
+use Rattle.layout.specs.Ascii.{ascii}
+use Rattle.layout.specs.Layout.{digit, places, number}
+use Rattle.layout.specs.Text.{Format, readText, writeText}
+
+-- "`YY-MM-DD-HH-MM-SS-FF` and CR. The pattern in 002 has seven dashes; the layout has six and holds." (01, Meinberg and
+-- ELV strings)
+unfoldable pub elvLayout : List ℕ
+elvLayout =
+    places 2 digit ++ ascii "-" ++ places 2 digit ++ ascii "-" ++ places 2 digit
+    ++ ascii "-" ++ places 2 digit ++ ascii "-" ++ places 2 digit ++ ascii "-" ++ places 2 digit
+    ++ ascii "-" ++ places 2 digit ++ ascii "\r"
+
+-- "No weekday is sent; it is worked out from the date." (01, Meinberg and ELV strings)
+unfoldable pub elvWeekday : List ℕ → ℕ
+elvWeekday s = weekdayNumber (fullYear (number 2 0 s)) (number 2 3 s) (number 2 6 s)
+
+-- the calendar's answer for the date of a string; its number where there is such a date
+unfoldable pub weekdayAnswer : List ℕ → Answer ℕ
+weekdayAnswer s = weekdayOf (fullYear (number 2 0 s)) (number 2 3 s) (number 2 6 s)
+
+-- "FF is 00..07, else 4" (01, Meinberg and ELV strings); where one of its bytes is no digit, that is 3
+abbrev pub elvFlags : List ℕ → ℕ
+elvFlags s = number 2 18 s
+
+unfoldable pub elvFlagFault : List ℕ → Bool
+elvFlagFault s = ltb 7 (elvFlags s)
+
+-- "1 summer (offset 120, else 60), 2 change coming, 4 unsynchronised" (01, Meinberg and ELV strings)
+abbrev pub summerIn : ℕ → Bool
+summerIn flags = eqb (flags % 2) 1
+
+abbrev pub changeIn : ℕ → Bool
+changeIn flags = eqb (flags / 2 % 2) 1
+
+abbrev pub unsynchronisedIn : ℕ → Bool
+unsynchronisedIn flags = eqb (flags / 4 % 2) 1
+
+unfoldable pub elvOffset : Bool → ℤ
+elvOffset summer = cond summer (pos 120) (pos 60)
+
+unfoldable pub elvFields : List ℕ → ClockTime
+elvFields s =
+    record {
+      year = fullYear (number 2 0 s);
+      month = number 2 3 s;
+      day = number 2 6 s;
+      weekday = elvWeekday s;
+      hour = number 2 9 s;
+      minute = number 2 12 s;
+      second = number 2 15 s;
+      «utc_offset» = elvOffset (summerIn (elvFlags s));
+      unsynchronised = unsynchronisedIn (elvFlags s);
+      unverified = false;
+      «summer_time» = summerIn (elvFlags s);
+      «dst_change_announced» = changeIn (elvFlags s);
+      «leap_second_announced» = false;
+      «alternate_antenna» = false;
+    }
+
+-- the number of the flags that are set
+unfoldable pub flagSum : Bool → Bool → Bool → ℕ
+flagSum summer change unsynchronised = cond summer 1 0 + cond change 2 0 + cond unsynchronised 4 0
+
+-- the layout with the fields of a clock time and the number of its flags in it
+abbrev pub lineOf : ClockTime → ℕ → List ℕ
+lineOf t flags =
+    digits 2 (t .year) ++ ascii "-" ++ digits 2 (t .month) ++ ascii "-" ++ digits 2 (t .day)
+    ++ ascii "-" ++ digits 2 (t .hour) ++ ascii "-" ++ digits 2 (t .minute) ++ ascii "-" ++ digits 2 (t .second)
+    ++ ascii "-" ++ digits 2 flags ++ ascii "\r"
+
+unfoldable pub elvText : ClockTime → List ℕ
+elvText t = lineOf t (flagSum (t .«summer_time») (t .«dst_change_announced») (t .unsynchronised))
+
+unfoldable pub elv : Format ClockTime
+elv =
+    record {
+      layout = elvLayout;
+      flagFault = elvFlagFault;
+      offsetFault = λ s. false;
+      positionFault = λ s. false;
+      mismatch = λ s. false;
+      fields = elvFields;
+      clock = λ t. t;
+      text = elvText;
+      same = sameTime;
+    }
+
+unfoldable pub readElv : List ℕ → Answer ClockTime
+readElv s = readText elv s
+
+unfoldable pub writeElv : ClockTime → List ℕ → Outcome
+writeElv t buffer = writeText elv t buffer

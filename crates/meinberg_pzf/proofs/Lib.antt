@@ -1,0 +1,3 @@
+-- Laws of the definitions, and the main results.
+pub mod PzfLaws
+pub mod Theorems

@@ -1,0 +1,85 @@
+-- The Meinberg PZF string, 32 bytes. Assumes nothing.
+use Prim.Native.Nat.{ℕ}
+use mathlib.Core.Bool.{Bool, false, cond}
+use mathlib.Core.List.{List, _∷_, _++_}
+use lib.IntN.{ℤ, pos}
+use Rattle.clock_time.specs.Errors.{Answer}
+use Rattle.clock_time.specs.Same.{eqℤ, sameTime}
+use Rattle.clock_time.specs.Writing.{Outcome}
+use Rattle.clock_time.specs.declared.ClockTime.{ClockTime}
+use Rattle.calendar.specs.Date.{fullYear}
+use Rattle.decimal.specs.Decimal.{digits}
+use Rattle.layout.specs.Ascii.{ascii}
+use Rattle.layout.specs.Layout.{digit, flag, places, number, has}
+use Rattle.layout.specs.Text.{Format, readText, writeText, letter}
+
+-- "`STX dd.mm.yy; w; hh:mm:ss; tuvxyza ETX`. Flags at 24..30: t `U`, u `#`, v `*`, x `S`, y `!`, z `A`, a `R`, or
+-- blank." (01, Meinberg and ELV strings)
+unfoldable pub pzfLayout : List ℕ
+pzfLayout =
+    ascii "\u{2}" ++ places 2 digit ++ ascii "." ++ places 2 digit ++ ascii "." ++ places 2 digit
+    ++ ascii "; " ++ places 1 digit
+    ++ ascii "; " ++ places 2 digit ++ ascii ":" ++ places 2 digit ++ ascii ":" ++ places 2 digit
+    ++ ascii "; " ++ (flag "U" ∷ flag "#" ∷ flag "*" ∷ flag "S" ∷ flag "!" ∷ flag "A" ∷ flag "R" ∷ ascii "\u{3}")
+
+-- "t `U` gives offset 0 whatever x is; otherwise x `S` gives 120 and blank 60." (01, Meinberg and ELV strings)
+unfoldable pub pzfOffset : Bool → Bool → ℤ
+pzfOffset utc summer = cond utc (pos 0) (cond summer (pos 120) (pos 60))
+
+-- "Flags at 24..30: t `U`, u `#`, v `*`, x `S`, y `!`, z `A`, a `R`, or blank. [..] x is the summer flag in each case."
+-- (01, Meinberg and ELV strings); u, v, y, z and a have the meanings that they have in the other strings
+unfoldable pub pzfFields : List ℕ → ClockTime
+pzfFields s =
+    record {
+      year = fullYear (number 2 7 s);
+      month = number 2 4 s;
+      day = number 2 1 s;
+      weekday = number 1 11 s;
+      hour = number 2 14 s;
+      minute = number 2 17 s;
+      second = number 2 20 s;
+      «utc_offset» = pzfOffset (has "U" 24 s) (has "S" 27 s);
+      unsynchronised = has "#" 25 s;
+      unverified = has "*" 26 s;
+      «summer_time» = has "S" 27 s;
+      «dst_change_announced» = has "!" 28 s;
+      «leap_second_announced» = has "A" 29 s;
+      «alternate_antenna» = has "R" 30 s;
+    }
+
+-- the layout with the fields of a clock time and seven letters in it
+abbrev pub lineOf : ClockTime → ℕ → ℕ → ℕ → ℕ → ℕ → ℕ → ℕ → List ℕ
+lineOf t utc u v x y z a =
+    ascii "\u{2}" ++ digits 2 (t .day) ++ ascii "." ++ digits 2 (t .month) ++ ascii "." ++ digits 2 (t .year)
+    ++ ascii "; " ++ digits 1 (t .weekday)
+    ++ ascii "; " ++ digits 2 (t .hour) ++ ascii ":" ++ digits 2 (t .minute) ++ ascii ":" ++ digits 2 (t .second)
+    ++ ascii "; " ++ (utc ∷ u ∷ v ∷ x ∷ y ∷ z ∷ a ∷ ascii "\u{3}")
+
+-- the letters, were the clock time to be read from them: the offset decides t, and x is the summer flag
+unfoldable pub pzfText : ClockTime → List ℕ
+pzfText t =
+    lineOf t (letter (eqℤ (t .«utc_offset») (pos 0)) "U")
+    (letter (t .unsynchronised) "#") (letter (t .unverified) "*")
+    (letter (t .«summer_time») "S") (letter (t .«dst_change_announced») "!")
+    (letter (t .«leap_second_announced») "A") (letter (t .«alternate_antenna») "R")
+
+-- it has no faults of its own beyond its layout's and its clock time's
+unfoldable pub pzf : Format ClockTime
+pzf =
+    record {
+      layout = pzfLayout;
+      flagFault = λ s. false;
+      offsetFault = λ s. false;
+      positionFault = λ s. false;
+      mismatch = λ s. false;
+      fields = pzfFields;
+      clock = λ t. t;
+      text = pzfText;
+      same = sameTime;
+    }
+
+unfoldable pub readPzf : List ℕ → Answer ClockTime
+readPzf s = readText pzf s
+
+unfoldable pub writePzf : ClockTime → List ℕ → Outcome
+writePzf t buffer = writeText pzf t buffer

@@ -1,0 +1,251 @@
+// The Meinberg PZF string.
+use clock_time::ClockTime;
+use clock_time::WriteAnswer;
+use layout::LayoutCheck;
+use layout::ReadAnswer;
+ghost use mathlib.Core.Path.{_≡_};
+ghost use mathlib.Core.Bool.{true};
+ghost use lib.ListN.{length};
+ghost use lib.IntN.{pos};
+ghost use Rattle.clock_time.specs.Same.{eqℤ};
+ghost use Rattle.clock_time.specs.Writing.{outcome};
+ghost use Rattle.layout.specs.Layout.{FitsLayout, fitsFrom, checkLayout, layoutFault};
+ghost use Rattle.layout.specs.Text.{readAnswer, letter};
+ghost use Rattle.meinberg_pzf.specs.Pzf.{pzfLayout, pzfOffset, pzfFields, readPzf, lineOf, pzfText, writePzf};
+
+// The layout, as the definition `pzfLayout` has it.
+const D: u32 = 256;
+
+const T: u32 = 512 + 85;
+
+const U: u32 = 512 + 35;
+
+const V: u32 = 512 + 42;
+
+const X: u32 = 512 + 83;
+
+const Y: u32 = 512 + 33;
+
+const Z: u32 = 512 + 65;
+
+const A: u32 = 512 + 82;
+
+const PZF: [u32; 32] = [
+    2,
+    D,
+    D,
+    46,
+    D,
+    D,
+    46,
+    D,
+    D,
+    59,
+    32,
+    D,
+    59,
+    32,
+    D,
+    D,
+    58,
+    D,
+    D,
+    58,
+    D,
+    D,
+    59,
+    32,
+    T,
+    U,
+    V,
+    X,
+    Y,
+    Z,
+    A,
+    3,
+];
+
+// Whether every place has a byte that may stand there.
+fn all_fit(s: &[u8]) -> bool
+    requires { ⌜ length (now s) ≡ 32 ⌝ }
+    ensures { λ r. ⌜ r ≡ fitsFrom true 0 pzfLayout (now (s .entry)) ⌝ }
+{
+    let date = (s[0] == 2)
+        & ((48 <= s[1]) & (s[1] <= 57))
+        & ((48 <= s[2]) & (s[2] <= 57))
+        & (s[3] == b'.')
+        & ((48 <= s[4]) & (s[4] <= 57))
+        & ((48 <= s[5]) & (s[5] <= 57))
+        & (s[6] == b'.')
+        & ((48 <= s[7]) & (s[7] <= 57))
+        & ((48 <= s[8]) & (s[8] <= 57))
+        & (s[9] == b';')
+        & (s[10] == b' ');
+    if !date {
+        return false;
+    }
+    let hour = date
+        & ((48 <= s[11]) & (s[11] <= 57))
+        & (s[12] == b';')
+        & (s[13] == b' ')
+        & ((48 <= s[14]) & (s[14] <= 57))
+        & ((48 <= s[15]) & (s[15] <= 57))
+        & (s[16] == b':');
+    if !hour {
+        return false;
+    }
+    let time = hour
+        & ((48 <= s[17]) & (s[17] <= 57))
+        & ((48 <= s[18]) & (s[18] <= 57))
+        & (s[19] == b':')
+        & ((48 <= s[20]) & (s[20] <= 57))
+        & ((48 <= s[21]) & (s[21] <= 57))
+        & (s[22] == b';')
+        & (s[23] == b' ');
+    if !time {
+        return false;
+    }
+    time
+        & ((s[24] == b' ') | (s[24] == b'U'))
+        & ((s[25] == b' ') | (s[25] == b'#'))
+        & ((s[26] == b' ') | (s[26] == b'*'))
+        & ((s[27] == b' ') | (s[27] == b'S'))
+        & ((s[28] == b' ') | (s[28] == b'!'))
+        & ((s[29] == b' ') | (s[29] == b'A'))
+        & ((s[30] == b' ') | (s[30] == b'R'))
+        & (s[31] == 3)
+}
+
+fn first_error(s: &[u8]) -> LayoutCheck
+    ensures { λ r. ⌜ layoutFault r ≡ checkLayout pzfLayout (now (s .entry)) ⌝ }
+{
+    layout::check_layout(&PZF, s)
+}
+
+// The places are gone over once. Only where one offends is the first error looked for.
+fn check(s: &[u8]) -> LayoutCheck
+    ensures { λ r. ⌜ layoutFault r ≡ checkLayout pzfLayout (now (s .entry)) ⌝ }
+{
+    if s.len() == 32 {
+        if all_fit(s) {
+            return LayoutCheck::Fits;
+        }
+    }
+    first_error(s)
+}
+
+// The UTC offset that the flags t and x stand for.
+fn offset_of(utc: bool, summer: bool) -> i16
+    ensures { λ r. ⌜ r ≡ pzfOffset utc summer ⌝ }
+{
+    if utc {
+        return 0;
+    }
+    if summer {
+        return 120;
+    }
+    60
+}
+
+fn fields(s: &[u8]) -> ClockTime
+    requires { ⌜ (length (now s) ≡ 32) × FitsLayout pzfLayout (now s) ⌝ }
+    ensures { λ r. ⌜ r ≡ pzfFields (now (s .entry)) ⌝ }
+{
+    let utc = s[24] == b'U';
+    let summer = s[27] == b'S';
+    ClockTime {
+        year: calendar::date::full_year(layout::pair_at(s, 7)),
+        month: layout::pair_at(s, 4),
+        day: layout::pair_at(s, 1),
+        weekday: layout::digit_at(s, 11),
+        hour: layout::pair_at(s, 14),
+        minute: layout::pair_at(s, 17),
+        second: layout::pair_at(s, 20),
+        utc_offset: offset_of(utc, summer),
+        unsynchronised: s[25] == b'#',
+        unverified: s[26] == b'*',
+        summer_time: summer,
+        dst_change_announced: s[28] == b'!',
+        leap_second_announced: s[29] == b'A',
+        alternate_antenna: s[30] == b'R',
+    }
+}
+
+// Reads a Meinberg PZF string: the clock time, or the first of 1, 2, 3, 4, 5, 6 and 7 that holds.
+pub fn read_pzf(s: &[u8]) -> ReadAnswer
+    ensures { λ r. ⌜ readAnswer r ≡ readPzf (now (s .entry)) ⌝ }
+{
+    match check(s) {
+        LayoutCheck::Offends(e, _) => ReadAnswer::Refused(e),
+        LayoutCheck::Fits => layout::check_clock(fields(s), false),
+    }
+}
+
+fn utc_letter(offset: i16) -> u8
+    ensures { λ r. ⌜ r ≡ letter (eqℤ offset (pos 0)) "U" ⌝ }
+{
+    if offset == 0 { b'U' } else { b' ' }
+}
+
+// The layout with the fields of `t` and the seven flag letters in it.
+fn line_with(t: ClockTime, utc: u8, u: u8, v: u8, x: u8, y: u8, z: u8, a: u8) -> [u8; 32]
+    ensures { λ r. ⌜ r ≡ lineOf t utc u v x y z a ⌝ }
+{
+    [
+        2,
+        48 + t.day / 10 % 10,
+        48 + t.day % 10,
+        b'.',
+        48 + t.month / 10 % 10,
+        48 + t.month % 10,
+        b'.',
+        (48 + t.year / 10 % 10) as u8,
+        (48 + t.year % 10) as u8,
+        b';',
+        b' ',
+        48 + t.weekday % 10,
+        b';',
+        b' ',
+        48 + t.hour / 10 % 10,
+        48 + t.hour % 10,
+        b':',
+        48 + t.minute / 10 % 10,
+        48 + t.minute % 10,
+        b':',
+        48 + t.second / 10 % 10,
+        48 + t.second % 10,
+        b';',
+        b' ',
+        utc,
+        u,
+        v,
+        x,
+        y,
+        z,
+        a,
+        3,
+    ]
+}
+
+fn line_of(t: ClockTime) -> [u8; 32]
+    ensures { λ r. ⌜ r ≡ pzfText t ⌝ }
+{
+    let utc = utc_letter(t.utc_offset);
+    let u = layout::letter_if(t.unsynchronised, b'#');
+    let v = layout::letter_if(t.unverified, b'*');
+    let x = layout::letter_if(t.summer_time, b'S');
+    let y = layout::letter_if(t.dst_change_announced, b'!');
+    let z = layout::letter_if(t.leap_second_announced, b'A');
+    let a = layout::letter_if(t.alternate_antenna, b'R');
+    line_with(t, utc, u, v, x, y, z, a)
+}
+
+// Writes a clock time as a Meinberg PZF string to the front of `out`: 23 where no such string is read as it, 20 where
+// there is no room for 32 bytes.
+pub fn write_pzf(t: ClockTime, out: &mut [u8]) -> WriteAnswer
+    ensures { λ r. ⌜ outcome r (now (out .exit)) ≡ writePzf t (now (out .entry)) ⌝ }
+{
+    let line = line_of(t);
+    let readable = layout::is_read_as(read_pzf(&line), t);
+    clock_time::write_bytes(readable, &line, out)
+}

@@ -1,0 +1,91 @@
+"""Document 01's rules for one DCF77 minute, in plain Python: written from the paper, sharing nothing with the library."""
+from datetime import date
+
+import rules
+from rules import Refused
+
+MARKS_1_TO_14 = range(1, 15)
+NUMBERS = dict(minute=(21, 3), hour=(29, 2), day=(36, 2), month=(45, 1), year=(50, 4))
+PARITIES = ((15, 21, 28), (16, 29, 35), (17, 36, 58))
+
+
+def binary(m, at, count):
+    """'Lowest bit first'"""
+    return sum(m[at + i] << i for i in range(count))
+
+
+def two_digits(m, name):
+    at, tens = NUMBERS[name]
+    return binary(m, at, 4) + 10 * binary(m, at + 4, tens)
+
+
+def read_minute(m):
+    try:
+        return 0, announced(list(m))
+    except Refused as refused:
+        return refused.number, None
+
+
+def announced(m):
+    """'For a minute: 11, 12, 13, 14, 15, 16, 17, 18, 7, 5, 6, 19'"""
+    if len(m) not in (59, 60):
+        raise Refused(11)
+    if any(mark > 1 for mark in m):
+        raise Refused(12)
+    if m[0] != 0 or m[20] != 1:
+        raise Refused(13)
+    if m[17] == m[18]:
+        raise Refused(14)
+    for number, first, last in PARITIES:
+        if sum(m[first : last + 1]) % 2:
+            raise Refused(number)
+    if any(binary(m, at, 4) > 9 for at in (21, 29, 36, 45, 50, 54)):
+        raise Refused(18)
+    flags = "".join(f for f, at in (("R", 15), ("!", 16), ("S", 17), ("A", 19)) if m[at])
+    r = rules.reading(rules.full_year(two_digits(m, "year")), two_digits(m, "month"), two_digits(m, "day"), binary(m, 42, 3),
+                      two_digits(m, "hour"), two_digits(m, "minute"), 0, 120 if m[17] else 60, flags)
+    if r["weekday"] == 0:
+        raise Refused(7)
+    if not rules.date_exists(r["year"], r["month"], r["day"]):
+        raise Refused(5)
+    if r["hour"] > 23 or r["minute"] > 59:
+        raise Refused(6)
+    if len(m) == 60 and not (m[19] == 1 and m[59] == 0 and r["minute"] == 0):
+        raise Refused(19)
+    return dict(r, marks=binary(m, 1, 14), sixty=len(m) == 60)
+
+
+def bits(value, count):
+    return [value >> i & 1 for i in range(count)]
+
+
+def with_parity(marks):
+    return marks + [sum(marks) % 2]
+
+
+def bcd(value, tens):
+    return bits(value % 10, 4) + bits(value // 10, tens)
+
+
+def marks_of(r):
+    """The only marks that could announce a reading."""
+    head = [0, *bits(r["marks"], 14), r["antenna"], r["change"], r["summer"], not r["summer"], r["leap"], 1]
+    calendar = bcd(r["day"], 2) + bits(r["weekday"], 3) + bcd(r["month"], 1) + bcd(r["year"] % 100, 4)
+    marks = head + with_parity(bcd(r["minute"], 3)) + with_parity(bcd(r["hour"], 2)) + with_parity(calendar)
+    return [int(mark) for mark in marks] + ([0] if r["sixty"] else [])
+
+
+def write_minute(r):
+    """The marks that read as the reading, None where nothing does."""
+    m = marks_of(r)
+    return m if read_minute(m) == (0, r) else None
+
+
+def run_number(m):
+    """'the refusal number; or, accepted, 100 + 32 L + 16 (run of 60) + 8 (offset 120) + 4 antenna + 2 change + 1 leap'"""
+    number, r = read_minute(m)
+    if number:
+        return number
+    days = (date(r["year"], r["month"], r["day"]) - date(1970, 1, 1)).days
+    local = 1440 * days + 60 * r["hour"] + r["minute"]
+    return 100 + 32 * local + 16 * r["sixty"] + 8 * (r["offset"] == 120) + 4 * r["antenna"] + 2 * r["change"] + r["leap"]

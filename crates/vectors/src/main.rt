@@ -8,8 +8,10 @@ mod flags;
 mod lines;
 mod numbers;
 mod output;
+mod strings;
 mod text;
 mod times;
+mod written;
 
 use crate::output::Buffer;
 use libc::STDIN_FILENO;
@@ -25,7 +27,9 @@ fn answer(line: &[u8], out: &mut Buffer, at: usize) -> usize {
     n = errors::answer(line, out, n);
     n = dates::answer(line, out, n);
     n = digits::answer(line, out, n);
-    times::answer(line, out, n)
+    n = times::answer(line, out, n);
+    n = strings::answer(line, out, n);
+    written::answer(line, out, n)
 }
 
 // Puts the answer to a line, a question mark where it is no command.

@@ -39,6 +39,10 @@ fn magnitude(value: i64) -> u64 {
     value as u64
 }
 
+pub fn wide(value: i16) -> i64 {
+    value as i64
+}
+
 pub fn put_signed(out: &mut Buffer, at: usize, value: i64) -> usize {
     let mut n = at;
     if value < 0 {
@@ -59,13 +63,16 @@ pub fn put_error(out: &mut Buffer, at: usize, e: Error) -> usize {
     put_number(out, n, clock_time::error_number(e) as u64)
 }
 
+pub fn put_write_answer(out: &mut Buffer, n: usize, answer: WriteAnswer) -> usize {
+    match answer {
+        WriteAnswer::Written(count) => put_number(out, n, count as u64),
+        WriteAnswer::Refused(e) => put_error(out, n, e),
+    }
+}
+
 // Puts a writer's answer, and between bars the buffer that it was lent.
 pub fn put_written(out: &mut Buffer, at: usize, answer: WriteAnswer, buffer: &[u8]) -> usize {
-    let mut n = at;
-    match answer {
-        WriteAnswer::Written(count) => n = put_number(out, n, count as u64),
-        WriteAnswer::Refused(e) => n = put_error(out, n, e),
-    }
+    let mut n = put_write_answer(out, at, answer);
     n = put_all(out, n, b" |");
     n = text::put(out, n, buffer);
     put(out, n, b'|')

@@ -1,6 +1,6 @@
-// A line against a pattern. A pattern is a command with a capital letter where a number stands: `B` for a u8, `W` for a
-// u16, `N` for a u64, `I` for an i16, `L` for an i32, `F` for six flags; `T` is the rest of the line. Every other byte stands
-// for itself.
+// A line against a pattern. A pattern is a command with a capital letter where a number stands: `B` for a u8, `W` for
+// a u16, `N` for a u64, `I` for an i16, `L` for an i32, `F` for six flags; `T` is the rest of the line. Every other
+// byte stands for itself.
 use crate::flags;
 use crate::numbers;
 use crate::numbers::Number;

@@ -1,4 +1,5 @@
-// Decimal numbers in a line. A signed one is handled as its distance from the least of its type, which is never below zero.
+// Decimal numbers in a line. A signed one is handled as its distance from the least of its type, which is never below
+// zero.
 
 // What was read: whether there was a digit, the value, and the place after it.
 pub struct Number {

@@ -1,4 +1,5 @@
-// The commands that read a time string, and write what was read back: `standard`, `pzf` and `elv` with the string as text.
+// The commands that read a time string, and write what was read back: `standard`, `pzf` and `elv` with the string as
+// text.
 use crate::fields::Fields;
 use crate::flags;
 use crate::output;

@@ -1,5 +1,6 @@
 -- `elv_dcf7000::read_fitting` meets its contract. Assumes nothing.
 use borrow.Author.Needs.{needs}
+use native.Mathlib.Omega.{arith}
 use mathlib.Core.Path.{sym, _∙_}
 use mir.Syntax.{w8}
 use borrow.Author.Needs.{fits-under}
@@ -10,7 +11,7 @@ use Rattle.elv_dcf7000.proofs.read_fitting.Tie as tie
 returns : tie.Need-returns
 returns c =
     let b = c .before in
-    sym (read-flags (b .before .before .pre) (rw (b .flags-of .ensures) at (c .if1 .taken)))
+    sym (read-flags (b .before .before .pre) (omega (arith, b .flags-of .ensures, c .if1 .taken)))
 
 cast-fields : tie.Need-cast-fields
 cast-fields c =

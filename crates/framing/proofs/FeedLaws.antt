@@ -1,0 +1,100 @@
+-- Laws of the feed over a list, at a place i of it. Assumes nothing.
+use Prim.Native.Nat.{ℕ, suc, _+_, _≤_, _<_, _-_}
+use native.Mathlib.Omega.{arith}
+use native.Mathlib.Numerals.{add-one, one-add}
+use native.Mathlib.Nat.{add-zero, zero-add, add-assoc}
+use mathlib.Core.Path.{_≡_, refl, sym, ap, _∙_}
+use mathlib.Core.Bool.{Bool, true, false, cond, true≢false}
+use mathlib.Core.List.{List, _∷_}
+use lib.ListN.{length, getD, take, drop, length-drop, drop-of-length-le}
+use lib.Seq.{drop-cons, drop-drop, take-all}
+use Rattle.framing.specs.declared.Framer.{Framer}
+use Rattle.framing.specs.Step.{FeedAnswer, nothingYet, complete, dropped, outcome, stepOf}
+use Rattle.framing.specs.Feed.{Feeding, feeding, isNothing, later, feedOf}
+use Rattle.framing.specs.Run.{Taken}
+
+pub later-zero : (r : Feeding) → later 0 r ≡ r
+unfolding later
+later-zero r = simp zero-add
+
+pub later-later : (m n : ℕ) (r : Feeding) → later m (later n r) ≡ later (m + n) r
+unfolding later
+later-later m n r = simp add-assoc
+
+pub later-one : (n : ℕ) (r : Feeding) → later 1 (later n r) ≡ later (suc n) r
+later-one n r = simp (later-later, one-add)
+
+pub feed-end : (f : Framer) (s : List ℕ) (i : ℕ) → length s ≤ i → feedOf f (drop i s) ≡ feeding f nothingYet 0
+unfolding feedOf
+feed-end f s i h = rw (drop-of-length-le s h)
+
+nothing-yet : (a : FeedAnswer) → isNothing a ≡ true → a ≡ nothingYet
+nothing-yet nothingYet h = refl
+nothing-yet (complete n) h = absurd (true≢false (sym h))
+nothing-yet dropped h = absurd (true≢false (sym h))
+
+pub loud-some : (a : FeedAnswer) → isNothing a ≡ false → a ≡ nothingYet → ⊥
+loud-some a loud e = true≢false (sym (ap isNothing e) ∙ loud)
+
+-- what holds of a feed's outcome, by whether the first byte ends a string
+pub feed-cases : (P : Feeding → Type 0) (f : Framer) (b : ℕ) (s : List ℕ)
+    → (stepOf f b .answer ≡ nothingYet → P (later 1 (feedOf (stepOf f b .framer) s)))
+    → (isNothing (stepOf f b .answer) ≡ false → P (feeding (stepOf f b .framer) (stepOf f b .answer) 1))
+    → P (feedOf f (b ∷ s))
+unfolding feedOf
+feed-cases P f b s on stop = go (isNothing (stepOf f b .answer)) refl
+  where
+    go : (t : Bool) → isNothing (stepOf f b .answer) ≡ t
+        → P (cond t (later 1 (feedOf (stepOf f b .framer) s)) (feeding (stepOf f b .framer) (stepOf f b .answer) 1))
+    go true e = on (nothing-yet (stepOf f b .answer) e)
+    go false e = stop e
+
+module _ (f g : Framer) (a : FeedAnswer) (b : ℕ) (s : List ℕ) (step : stepOf f b ≡ outcome g a) where
+  -- a byte that ends nothing, and the rest
+  pub feed-on : isNothing a ≡ true → feedOf f (b ∷ s) ≡ later 1 (feedOf g s)
+  unfolding feedOf
+  feed-on quiet = simp (step, quiet)
+
+  -- a byte that ends a string
+  pub feed-stop : isNothing a ≡ false → feedOf f (b ∷ s) ≡ feeding g a 1
+  unfolding feedOf
+  feed-stop loud = simp (step, loud)
+
+-- `&s[i..]`
+pub rest : (s : List ℕ) (i : ℕ) → take (length s - i) (drop i s) ≡ drop i s
+rest s i = take-all (length s - i) (drop i s) (omega (arith, length-drop i s))
+
+module _ (f : Framer) (s : List ℕ) where
+  pub taken-none : Taken f s 0 f
+  taken-none = record { within = omega arith; goes = simp later-zero }
+
+  module _ (i : ℕ) (g : Framer) (t : Taken f s i g) where
+    -- what is taken of the rest is taken of the whole
+    pub taken-more : (n : ℕ) (h : Framer) → Taken g (take (length s - i) (drop i s)) n h → Taken f s (i + n) h
+    taken-more n h part =
+        let u : Taken g (drop i s) n h = rw (rest s i) at part in
+        record {
+          within = omega (arith, length-drop i s);
+          goes = t .goes ∙ ap (later i) (u .goes) ∙ simp (later-later, drop-drop);
+        }
+
+    pub taken-end : length s ≤ i → feedOf f s ≡ feeding g nothingYet i
+    unfolding later
+    taken-end q = t .goes ∙ ap (later i) (feed-end g s i q) ∙ simp add-zero
+
+    module _ (h : Framer) (a : FeedAnswer) (q : i < length s) (step : stepOf g (getD s i 0) ≡ outcome h a) where
+      at-place : feedOf g (drop i s) ≡ feedOf g (getD s i 0 ∷ drop (i + 1) s)
+      at-place = rw (add-one, drop-cons s i 0)
+
+      pub taken-step : isNothing a ≡ true → Taken f s (i + 1) h
+      taken-step quiet =
+          record {
+            within = omega arith;
+            goes =
+                t .goes ∙ ap (later i) (at-place ∙ feed-on g h a (getD s i 0) (drop (i + 1) s) step quiet)
+                ∙ simp later-later;
+          }
+
+      pub taken-stop : isNothing a ≡ false → feedOf f s ≡ feeding h a (i + 1)
+      unfolding later
+      taken-stop loud = t .goes ∙ ap (later i) (at-place ∙ feed-stop g h a (getD s i 0) (drop (i + 1) s) step loud)

@@ -1,0 +1,27 @@
+-- What the private functions promise to the feed. Assumes nothing.
+use Prim.Native.Nat.{ℕ, _≤_}
+use mathlib.Core.Path.{_≡_}
+use mathlib.Core.Bool.{false, _||_}
+use mathlib.Core.List.{List}
+use lib.Dec.{eqb}
+use lib.ListN.{length, drop}
+use Rattle.framing.specs.declared.Framer.{Framer}
+use Rattle.framing.specs.declared.single.Moved.{Moved}
+use Rattle.framing.specs.Step.{Stepped, nothingYet, outcome, answerOf, framerOf, stepOf}
+use Rattle.framing.specs.Feed.{later, feedOf}
+
+abbrev pub moved : List ℕ → Moved → Stepped
+moved bytes m = outcome (framerOf bytes (m .count) (m .mode)) (answerOf (m .event))
+
+-- fed s from the state f, the feed takes n bytes with no event, and is then in the state g
+pub record Taken (f : Framer) (s : List ℕ) (n : ℕ) (g : Framer) : Type 0 where
+  pub within : n ≤ length s
+  pub goes : feedOf f s ≡ later n (feedOf g (drop n s))
+
+-- bytes other than STX and `last` leave the state f as it is
+abbrev pub Still : Framer → ℕ → Type 0
+Still f last = (b : ℕ) → eqb b 2 || eqb b last ≡ false → stepOf f b ≡ outcome f nothingYet
+
+-- the first n bytes of s are taken with no effect, in a state that bytes other than STX and `last` leave as it is
+abbrev pub Skipped : List ℕ → ℕ → ℕ → Type 0
+Skipped s last n = (f : Framer) → Still f last → Taken f s n f

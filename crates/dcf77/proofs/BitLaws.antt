@@ -1,0 +1,61 @@
+-- Marks and the bits of their numbers, over any number of marks. Assumes nothing.
+use Prim.Native.Nat.{ℕ, zero, suc, _+_, _*_, _/_, _%_, _≤_, _<_}
+use native.Mathlib.Nat.{add-zero, add-suc, suc-add}
+use native.Mathlib.Omega.{arith}
+use mathlib.Core.Path.{_≡_, refl, ap, _∙_}
+use mathlib.Core.Bool.{Bool, true, false}
+use mathlib.Core.List.{List, [], _∷_}
+use lib.ListN.{length, getD}
+use Rattle.calendar.specs.Date.{sum, fullYear}
+use Rattle.dcf77.specs.Marks.{binary, twoDigits, longs, bits}
+use Rattle.dcf77.proofs.MarkLaws.{low-part, high-part}
+
+-- k marks from a place on
+unfoldable pub marksFrom : ℕ → ℕ → List ℕ → List ℕ
+marksFrom zero at m = []
+marksFrom (suc k) at m = getD m at 0 ∷ marksFrom k (suc at) m
+
+later : (k at b : ℕ) (m : List ℕ) → marksFrom k (suc at) (b ∷ m) ≡ marksFrom k at m
+unfolding marksFrom
+later zero at b m = refl
+later (suc k) at b m = ap (λ (l : List ℕ). getD m at 0 ∷ l) (later k (suc at) b m)
+
+pub marks-all : (m : List ℕ) → marksFrom (length m) 0 m ≡ m
+unfolding marksFrom
+marks-all [] = refl
+marks-all (b ∷ m) = ap (λ (l : List ℕ). b ∷ l) (later (length m) 0 b m ∙ marks-all m)
+
+longs-last : (m : List ℕ) (k at : ℕ) → longs (suc k) at m ≡ sum (marksFrom k at m) + getD m (at + k) 0
+unfolding longs marksFrom
+longs-last m zero at = rw (add-zero at) (omega arith)
+longs-last m (suc k) at = rw (add-suc, ← suc-add) (omega (arith, longs-last m k (suc at)))
+
+module _ (m : List ℕ) (small : (k : ℕ) → getD m k 0 ≤ 1) where
+  -- the bits of the number of marks are the marks
+  pub bits-binary : (k at : ℕ) → bits k (binary k at m) ≡ marksFrom k at m
+  unfolding bits binary marksFrom
+  bits-binary zero at = refl
+  bits-binary (suc k) at =
+      let h : getD m at 0 < 2 = omega (arith, small at) in
+      let n = binary k (suc at) m in
+      rw (low-part n h, high-part n h, bits-binary k (suc at))
+
+  -- where the whole is even, the last mark is the sum of the others modulo 2
+  pub parity-mark : (k at : ℕ) → longs (suc k) at m % 2 ≡ 0 → sum (marksFrom k at m) % 2 ≡ getD m (at + k) 0
+  parity-mark k at even =
+      let h : (sum (marksFrom k at m) + getD m (at + k) 0) % 2 ≡ 0 = rw (longs-last m k at) at even in
+      omega (arith, small (at + k))
+
+-- ---- a number of two digits
+module _ (m : List ℕ) (at tens : ℕ) (digit : binary 4 at m ≤ 9) where
+  pub ones-digit : twoDigits at tens m % 10 ≡ binary 4 at m
+  unfolding twoDigits
+  ones-digit = omega arith
+
+  pub tens-digit : twoDigits at tens m / 10 ≡ binary tens (4 + at) m
+  unfolding twoDigits
+  tens-digit = omega arith
+
+pub year-digits : (n : ℕ) → n < 100 → (fullYear n % 10 ≡ n % 10) × (fullYear n / 10 % 10 ≡ n / 10)
+unfolding fullYear
+year-digits n h = (omega arith, omega arith)

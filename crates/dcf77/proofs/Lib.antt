@@ -1,0 +1,12 @@
+-- Laws of the definitions, and the main results.
+pub mod MarkLaws
+pub mod NumberLaws
+pub mod CheckLaws
+pub mod AcceptLaws
+pub mod BitLaws
+pub mod BackLaws
+pub mod SameLaws
+pub mod RunLaws
+pub mod SpellLaws
+pub mod LineLaws
+pub mod Theorems

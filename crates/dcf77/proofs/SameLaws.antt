@@ -1,0 +1,40 @@
+-- The test that two minutes are the same is right. Assumes nothing.
+use mathlib.Core.Path.{_≡_, refl}
+use mathlib.Core.Bool.{Bool, true, false, _&&_, Bool·beq, false≢true}
+use lib.Dec.{eqb}
+use borrow.Author.Tests.{eq-eqb, eqb-true}
+use Rattle.clock_time.specs.Same.{sameTime}
+use Rattle.clock_time.proofs.SameLaws.{sameTime-refl, sameTime-true}
+use Rattle.clock_time.proofs.Tests.{both}
+use Rattle.dcf77.specs.Minute.{sameMinute}
+use Rattle.dcf77.specs.declared.MinuteTime.{MinuteTime}
+
+beq-refl : (a : Bool) → Bool·beq a a ≡ true
+beq-refl true = refl
+beq-refl false = refl
+
+beq-true : (a b : Bool) → Bool·beq a b ≡ true → a ≡ b
+beq-true true true h = refl
+beq-true true false h = absurd (false≢true h)
+beq-true false true h = absurd (false≢true h)
+beq-true false false h = refl
+
+pub sameMinute-refl : (a : MinuteTime) → sameMinute a a ≡ true
+unfolding sameMinute
+sameMinute-refl a = simp (sameTime-refl, eq-eqb (a .detail .marks) (a .detail .marks) refl, beq-refl)
+
+pub sameMinute-true : (a b : MinuteTime) → sameMinute a b ≡ true → a ≡ b
+unfolding sameMinute
+sameMinute-true a b h =
+    let last = both (sameTime (a .time) (b .time) && eqb (a .detail .marks) (b .detail .marks))
+    (Bool·beq (a .detail .sixty) (b .detail .sixty)) h in
+    let w = both (sameTime (a .time) (b .time)) (eqb (a .detail .marks) (b .detail .marks)) (last .0) in
+    λ i.
+    record {
+      time = sameTime-true (a .time) (b .time) (w .0) i;
+      detail =
+          record {
+            marks = eqb-true (a .detail .marks) (b .detail .marks) (w .1) i;
+            sixty = beq-true (a .detail .sixty) (b .detail .sixty) (last .1) i;
+          };
+    }

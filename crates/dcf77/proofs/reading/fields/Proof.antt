@@ -1,0 +1,39 @@
+-- `dcf77::reading::fields` meets its contract. Assumes nothing.
+use borrow.Author.Needs.{needs}
+use native.Mathlib.Omega.{arith}
+use denote.Ref.{now}
+use Rattle.dcf77.specs.Minute.{minuteFields}
+use Rattle.dcf77.proofs.MarkLaws.{binary-split, binary-below, binary-first}
+use Rattle.dcf77.proofs.reading.fields.Statement.{statement}
+use Rattle.dcf77.proofs.reading.fields.Tie as tie
+
+add-marks : tie.Need-add-marks
+add-marks c = omega (arith, c .before .read-eight .ensures, binary-below _ (c .before .before .before .before .pre .sure) 8 1)
+
+cast-t11 : tie.Need-cast-t11
+cast-t11 c = omega (arith, c .before .read-eight .ensures, binary-below _ (c .before .before .before .before .pre .sure) 8 1)
+
+returns : tie.Need-returns
+unfolding minuteFields
+returns c =
+    let s = c .before .before .before .before in
+    let m = now (s .args .m) in
+    rw (binary-split m 8 6 1)
+    (simp (
+      c .before .before .announced-time .ensures,
+      c .before .read-eight .ensures,
+      c .read-eight2 .ensures,
+      binary-first m (s .pre .sure) 6 2 9,
+    ))
+
+pub fields-spec : {M : Type 1} → statement M
+fields-spec =
+    tie.close
+    (tie.spec
+    (λ c κs. search needs)
+    (λ c κs. search needs)
+    (λ c κs. search needs)
+    (λ c. search needs)
+    add-marks
+    cast-t11
+    returns)

@@ -1,0 +1,41 @@
+-- Numbers and parity in marks, over a first place and a count. Assumes nothing.
+use Prim.Native.Nat.{ℕ, zero, suc, _+_, _*_, _/_, _%_}
+use mathlib.Core.Bool.{Bool, true, not, _&&_}
+use mathlib.Core.List.{List, [], _∷_, _++_}
+use lib.Dec.{ltb, eqb}
+use lib.ListN.{getD}
+
+-- "Mark 0 short (100 ms), 1 long (200 ms)" (01, DCF77 marks)
+abbrev pub long : ℕ → List ℕ → Bool
+long at m = eqb (getD m at 0) 1
+
+abbrev pub short : ℕ → List ℕ → Bool
+short at m = eqb (getD m at 0) 0
+
+-- every mark is short or long
+unfoldable pub allSure : List ℕ → Bool
+allSure [] = true
+allSure (b ∷ m) = ltb b 2 && allSure m
+
+-- "Lowest bit first" (01, DCF77 marks): the number that k marks from a place on stand for
+unfoldable pub binary : ℕ → ℕ → List ℕ → ℕ
+binary zero at m = 0
+binary (suc k) at m = getD m at 0 + 2 * binary k (suc at) m
+
+-- a digit of four marks, and after it the tens
+unfoldable pub twoDigits : ℕ → ℕ → List ℕ → ℕ
+twoDigits at tens m = binary 4 at m + 10 * binary tens (4 + at) m
+
+-- how many of the k marks from a place on are long
+unfoldable pub longs : ℕ → ℕ → List ℕ → ℕ
+longs zero at m = 0
+longs (suc k) at m = getD m at 0 + longs k (suc at) m
+
+-- "Parity is even over 21..28, 29..35 and 36..58." (01, DCF77 marks)
+unfoldable pub isOdd : ℕ → ℕ → List ℕ → Bool
+isOdd k at m = not (eqb (longs k at m % 2) 0)
+
+-- the last k bits of n, lowest first
+unfoldable pub bits : ℕ → ℕ → List ℕ
+bits zero n = []
+bits (suc k) n = n % 2 ∷ bits k (n / 2)

@@ -1,0 +1,124 @@
+-- One DCF77 minute: the marks between two gaps, and the time that they announce. Assumes nothing.
+use Prim.Native.Nat.{ℕ, _+_, _*_, _/_, _%_}
+use mathlib.Core.Bool.{Bool, true, false, cond, not, _&&_, _||_, Bool·beq}
+use mathlib.Core.List.{List, [], _∷_, _++_}
+use lib.Dec.{leb, eqb}
+use lib.ListN.{length, getD}
+use lib.IntN.{pos}
+use Rattle.clock_time.specs.Errors.{Answer, accepted, refused, errorNumber, Check, given, checked}
+use Rattle.clock_time.specs.Same.{eqℤ, sameTime}
+use Rattle.clock_time.specs.Writing.{Outcome, writeBack}
+use Rattle.clock_time.specs.declared.ClockTime.{ClockTime}
+use Rattle.clock_time.specs.declared.MinuteDetail.{MinuteDetail}
+use Rattle.calendar.specs.Date.{dateExists, fullYear, sum, daysSinceEpoch}
+use Rattle.calendar.specs.TimeOfDay.{timeExists}
+use Rattle.dcf77.specs.Marks.{long, short, allSure, binary, twoDigits, isOdd, bits}
+use Rattle.dcf77.specs.declared.MinuteTime.{MinuteTime}
+use Rattle.dcf77.specs.declared.MinuteAnswer.{MinuteAnswer}
+use Rattle.dcf77.specs.declared.MinuteAnswer.the-variants.{Read, Refused}
+
+-- "15 antenna [..]; 16 change coming; 17, 18 zone: 0 1 offset 60, 1 0 offset 120 and summer time; 19 leap second coming [..]
+-- minute 21..24 and tens 25..27, parity 28; hour 29..32, tens 33..34, parity 35; day 36..39, tens 40..41; weekday 42..44; month
+-- 45..48, ten 49; year 50..53, tens 54..57; parity 58. The sources give 45..49 and 50 for the month and 51..53 for the year: PTB
+-- decides. [..] A minute announces the time at which the next minute starts, second 0; the zone is that of the announced time."
+-- (01, DCF77 marks)
+unfoldable pub announced : List ℕ → ClockTime
+announced m =
+    record {
+      year = fullYear (twoDigits 50 4 m);
+      month = twoDigits 45 1 m;
+      day = twoDigits 36 2 m;
+      weekday = binary 3 42 m;
+      hour = twoDigits 29 2 m;
+      minute = twoDigits 21 3 m;
+      second = 0;
+      «utc_offset» = cond (long 17 m) (pos 120) (pos 60);
+      unsynchronised = false;
+      unverified = false;
+      «summer_time» = long 17 m;
+      «dst_change_announced» = long 16 m;
+      «leap_second_announced» = long 19 m;
+      «alternate_antenna» = long 15 m;
+    }
+
+-- "1..14 kept as sent" (01, DCF77 marks); "a minute adds its marks 1..14 and whether it had 60 marks" (01, The reading)
+unfoldable pub minuteFields : List ℕ → MinuteTime
+minuteFields m =
+    record {
+      time = announced m;
+      detail = record { marks = binary 14 1 m; sixty = eqb (length m) 60 };
+    }
+
+-- "For a minute: 11, 12, 13, 14, 15, 16, 17, 18, 7, 5, 6, 19" (01, Refusal numbers)
+unfoldable pub minuteChecks : List ℕ → List Check
+minuteChecks m =
+    let t = announced m in
+    given 11 (not (eqb (length m) 59 || eqb (length m) 60))
+    ∷ given 12 (not (allSure m))
+    ∷ given 13 (not (short 0 m && long 20 m))
+    ∷ given 14 (eqb (getD m 17 0) (getD m 18 0))
+    ∷ given 15 (isOdd 8 21 m)
+    ∷ given 16 (isOdd 7 29 m)
+    ∷ given 17 (isOdd 23 36 m)
+    ∷ given 18
+    (not
+    (leb (binary 4 21 m) 9 && leb (binary 4 29 m) 9 && leb (binary 4 36 m) 9 && leb (binary 4 45 m) 9
+    && leb (binary 4 50 m) 9 && leb (binary 4 54 m) 9))
+    ∷ given 7 (not (leb 1 (t .weekday) && leb (t .weekday) 7))
+    ∷ given 5 (not (dateExists (t .year) (t .month) (t .day)))
+    ∷ given 6 (not (timeExists (t .hour) (t .minute) (t .second) (t .«utc_offset»)))
+    ∷ given 19 (eqb (length m) 60 && not (long 19 m && short 59 m && eqb (t .minute) 0))
+    ∷ []
+
+unfoldable pub readMinute : List ℕ → Answer MinuteTime
+readMinute m = checked (minuteChecks m) (minuteFields m)
+
+abbrev pub minuteAnswer : MinuteAnswer → Answer MinuteTime
+minuteAnswer (Read t) = accepted t
+minuteAnswer (Refused e) = refused (errorNumber e)
+
+-- ---- written back
+abbrev pub mark : Bool → ℕ
+mark on = cond on 1 0
+
+-- marks, and after them the one that makes their parity even
+abbrev pub withParity : List ℕ → List ℕ
+withParity m = m ++ (sum m % 2 ∷ [])
+
+-- the only 59 marks that could announce a minute's time
+unfoldable pub firstMarks : MinuteTime → List ℕ
+firstMarks a =
+    let t = a .time in
+    0 ∷ bits 14 (a .detail .marks)
+    ++ (mark (t .«alternate_antenna») ∷ mark (t .«dst_change_announced») ∷ [])
+    ++ (mark (t .«summer_time») ∷ mark (not (t .«summer_time»)) ∷ mark (t .«leap_second_announced») ∷ 1 ∷ [])
+    ++ withParity (bits 4 (t .minute % 10) ++ bits 3 (t .minute / 10))
+    ++ withParity (bits 4 (t .hour % 10) ++ bits 2 (t .hour / 10))
+    ++ withParity
+    (bits 4 (t .day % 10) ++ bits 2 (t .day / 10) ++ bits 3 (t .weekday)
+    ++ bits 4 (t .month % 10) ++ bits 1 (t .month / 10) ++ bits 4 (t .year % 10) ++ bits 4 (t .year / 10 % 10))
+
+-- "Second 59 has no mark, except before a leap second" (01, DCF77 marks); that mark is short
+unfoldable pub minuteText : MinuteTime → List ℕ
+minuteText a = firstMarks a ++ cond (a .detail .sixty) (0 ∷ []) []
+
+unfoldable pub sameMinute : MinuteTime → MinuteTime → Bool
+sameMinute a b =
+    sameTime (a .time) (b .time) && eqb (a .detail .marks) (b .detail .marks) && Bool·beq (a .detail .sixty) (b .detail .sixty)
+
+unfoldable pub writeMinute : MinuteTime → List ℕ → Outcome
+writeMinute a buffer = writeBack readMinute minuteText sameMinute a buffer
+
+-- ---- the number of a run
+-- "at a gap the refusal number; or, accepted, 100 + 32 L + 16 (run of 60) + 8 (offset 120) + 4 antenna + 2 change + 1 leap, where
+-- L is local minutes from 1970-01-01 00:00" (01, Tape and sheet)
+abbrev pub outcomeNumber : Answer MinuteTime → ℕ
+outcomeNumber (refused k) = k
+outcomeNumber (accepted a) =
+    let t = a .time in
+    100 + 32 * (1440 * daysSinceEpoch (t .year) (t .month) (t .day) + 60 * t .hour + t .minute)
+    + 16 * mark (a .detail .sixty) + 8 * mark (eqℤ (t .«utc_offset») (pos 120))
+    + 4 * mark (t .«alternate_antenna») + 2 * mark (t .«dst_change_announced») + mark (t .«leap_second_announced»)
+
+unfoldable pub runNumber : List ℕ → ℕ
+runNumber m = outcomeNumber (readMinute m)

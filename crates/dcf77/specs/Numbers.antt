@@ -1,0 +1,20 @@
+-- What the private functions take for granted or say of their results: runs of marks as numbers. Assumes nothing.
+use Prim.Native.Nat.{ℕ, _≤_, _<_, _^_}
+use mathlib.Core.Path.{_≡_}
+use mathlib.Core.Bool.{true}
+use mathlib.Core.List.{List}
+use lib.ListN.{length}
+use Rattle.dcf77.specs.Marks.{allSure, binary, bits}
+
+-- a run of sure marks, with the numbers that its three groups with a parity, 21..28, 29..35 and 36..58, stand for
+pub record Numbers (m : List ℕ) (n h d : ℕ) : Type 0 where
+  pub long : 59 ≤ length m
+  pub sure : allSure m ≡ true
+  pub minute : n ≡ binary 8 21 m
+  pub hour : h ≡ binary 7 29 m
+  pub date : d ≡ binary 23 36 m
+
+-- a number whose last k bits are these marks
+pub record Spells (k : ℕ) (m : List ℕ) (n : ℕ) : Type 0 where
+  pub below : n < 2 ^ k
+  pub marks : bits k n ≡ m

@@ -1,0 +1,117 @@
+// The marks of a minute, made as the bits of one number.
+use crate::MinuteAnswer;
+use crate::MinuteTime;
+use crate::marks;
+use clock_time::WriteAnswer;
+ghost use mathlib.Core.Path.{_≡_};
+ghost use mathlib.Core.Bool.{not};
+ghost use mathlib.Core.List.{[], _∷_, _++_};
+ghost use Prim.Native.Nat.{_/_, _%_};
+ghost use Rattle.clock_time.specs.Writing.{outcome, isAccepted};
+ghost use Rattle.dcf77.specs.Marks.{bits};
+ghost use Rattle.dcf77.specs.Numbers.{Spells};
+ghost use Rattle.dcf77.specs.Minute.{minuteAnswer, mark, withParity, firstMarks, minuteText, sameMinute, writeMinute};
+
+fn spell_flags(antenna: bool, change: bool, summer: bool, leap: bool) -> u64
+    ensures { λ r. ⌜ Spells 6 (mark antenna ∷ mark change ∷ mark summer ∷ mark (not summer) ∷ mark leap ∷ 1 ∷ []) r ⌝ }
+{
+    antenna as u64
+        + 2 * (change as u64 + 2 * (summer as u64 + 2 * (!summer as u64 + 2 * (leap as u64 + 2))))
+}
+
+fn spell_minute(minute: u8) -> u64
+    ensures { λ r. ⌜ Spells 8 (withParity (bits 4 (minute % 10) ++ bits 3 (minute / 10))) r ⌝ }
+{
+    let n = (minute % 10) as u64 + 16 * ((minute / 10 % 8) as u64);
+    n + 128 * marks::parity(n)
+}
+
+fn spell_hour(hour: u8) -> u64
+    ensures { λ r. ⌜ Spells 7 (withParity (bits 4 (hour % 10) ++ bits 2 (hour / 10))) r ⌝ }
+{
+    let n = (hour % 10) as u64 + 16 * ((hour / 10 % 4) as u64);
+    n + 64 * marks::parity(n)
+}
+
+fn spell_month(month: u8, year: u16) -> u64
+    ensures { λ r. ⌜ Spells 13 (bits 4 (month % 10) ++ bits 1 (month / 10) ++ bits 4 (year % 10) ++ bits 4 (year / 10 % 10)) r ⌝ }
+{
+    let decade = (year % 10) as u64 + 16 * ((year / 10 % 10) as u64);
+    (month % 10) as u64 + 16 * ((month / 10 % 2) as u64 + 2 * decade)
+}
+
+fn spell_date(day: u8, weekday: u8, month: u8, year: u16) -> u64
+    ensures { λ r. ⌜ Spells 23 (withParity (bits 4 (day % 10) ++ bits 2 (day / 10) ++ bits 3 weekday ++ bits 4 (month % 10)
+        ++ bits 1 (month / 10) ++ bits 4 (year % 10) ++ bits 4 (year / 10 % 10))) r ⌝ }
+{
+    let rest = (weekday % 8) as u64 + 8 * spell_month(month, year);
+    let n = (day % 10) as u64 + 16 * ((day / 10 % 4) as u64 + 4 * rest);
+    n + 4194304 * marks::parity(n)
+}
+
+fn spell_run(a: MinuteTime) -> u64
+    ensures { λ r. ⌜ Spells 59 (firstMarks a) r ⌝ }
+{
+    let t = a.time;
+    let d = a.detail;
+    let flags = spell_flags(
+        t.alternate_antenna,
+        t.dst_change_announced,
+        t.summer_time,
+        t.leap_second_announced,
+    );
+    let date = spell_date(t.day, t.weekday, t.month, t.year);
+    let groups = spell_minute(t.minute) + 256 * (spell_hour(t.hour) + 128 * date);
+    2 * ((d.marks % 16384) as u64 + 16384 * (flags + 64 * groups))
+}
+
+// The bits of a number, the lowest first.
+fn put_bits(n: u64) -> [u8; 60]
+    ensures { λ r. ⌜ r ≡ bits 60 n ⌝ }
+{
+    let mut line = [0u8; 60];
+    let mut rest = n;
+    let mut i = 0;
+    while i < 60 {
+        line[i] = (rest % 2) as u8;
+        rest = rest / 2;
+        i += 1;
+    }
+    line
+}
+
+// The 59 marks of a minute, and a short one after them.
+pub(crate) fn line_of(a: MinuteTime) -> [u8; 60]
+    ensures { λ r. ⌜ r ≡ firstMarks a ++ (0 ∷ []) ⌝ }
+{
+    put_bits(spell_run(a))
+}
+
+fn same_minute(a: MinuteTime, b: MinuteTime) -> bool
+    ensures { λ r. ⌜ r ≡ sameMinute a b ⌝ }
+{
+    let time = a.time;
+    let other = b.time;
+    let same = clock_time::same_time(time, other);
+    let detail = a.detail;
+    let more = b.detail;
+    same & (detail.marks == more.marks) & (detail.sixty == more.sixty)
+}
+
+fn is_read_as(answer: MinuteAnswer, a: MinuteTime) -> bool
+    ensures { λ r. ⌜ r ≡ isAccepted sameMinute (minuteAnswer answer) a ⌝ }
+{
+    match answer {
+        MinuteAnswer::Read(b) => same_minute(b, a),
+        MinuteAnswer::Refused(_) => false,
+    }
+}
+
+// Writes the run that is made of a minute, if it is read as that minute.
+pub(crate) fn write_run(a: MinuteTime, run: &[u8], out: &mut [u8]) -> WriteAnswer
+    requires { ⌜ now run ≡ minuteText a ⌝ }
+    ensures { λ r. ⌜ outcome r (now (out .exit)) ≡ writeMinute a (now (out .entry)) ⌝ }
+{
+    let readable = is_read_as(crate::read_minute(run), a);
+    clock_time::write_bytes(readable, run, out)
+}

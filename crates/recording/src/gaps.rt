@@ -1,0 +1,41 @@
+// The gaps next to a place of a recording.
+ghost use mathlib.Core.Path.{_≡_};
+ghost use Prim.Native.Nat.{_<_, _≤_};
+ghost use lib.ListN.{length};
+ghost use Rattle.recording.specs.Gaps.{gapBefore, gapAfter, gapOf};
+
+// The place of a gap, where there is one.
+pub(crate) enum Gap {
+    At(usize),
+    Nothing,
+}
+
+// The nearest gap before a place.
+pub(crate) fn gap_before(marks: &[u8], place: usize) -> Gap
+    requires { ⌜ place ≤ length (now marks) ⌝ }
+    ensures { λ r. ⌜ gapOf r ≡ gapBefore (now (marks .entry)) place ⌝ }
+{
+    let mut i = place;
+    while 0 < i {
+        i -= 1;
+        if marks[i] == 2 {
+            return Gap::At(i);
+        }
+    }
+    Gap::Nothing
+}
+
+// The first gap after a place.
+pub(crate) fn gap_after(marks: &[u8], place: usize) -> Gap
+    requires { ⌜ place < length (now marks) ⌝ }
+    ensures { λ r. ⌜ gapOf r ≡ gapAfter (now (marks .entry)) place ⌝ }
+{
+    let mut i = place + 1;
+    while i < marks.len() {
+        if marks[i] == 2 {
+            return Gap::At(i);
+        }
+        i += 1;
+    }
+    Gap::Nothing
+}

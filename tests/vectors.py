@@ -11,6 +11,7 @@ import random
 import sys
 from datetime import date, datetime, timedelta
 
+import minute_vectors
 import string_vectors
 
 NOT_UNDERSTOOD = "?"
@@ -18,8 +19,6 @@ NO_SUCH_DATE = "refused 5"
 NO_VALID_READING = "refused 23"
 YEARS = range(1970, 2070)
 EPOCH = datetime(1970, 1, 1)
-# Commands that the program does not have yet.
-NOT_YET = ("gps ", "read ", "write gps ")
 
 
 # What each command answers: the line, and the answer.
@@ -331,7 +330,9 @@ def main():
         sys.exit(__doc__)
     check_against_document()
     string_vectors.check_against_document()
-    for section in (*SECTIONS, *map(with_heading, string_vectors.SECTIONS)):
+    minute_vectors.check_against_document()
+    named = (*string_vectors.SECTIONS, *minute_vectors.SECTIONS)
+    for section in (*SECTIONS, *map(with_heading, named)):
         for row in section():
             if isinstance(row, str):
                 print(f"# {row}")
@@ -343,7 +344,7 @@ def main():
 
 def with_heading(named):
     heading, section = named
-    return lambda: [heading, *(row for row in section() if not row[0].startswith(NOT_YET))]
+    return lambda: [heading, *section()]
 
 
 if __name__ == "__main__":

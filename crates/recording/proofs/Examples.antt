@@ -62,7 +62,8 @@ clockTime hour minute second offset =
 pub data Example : Type 0 where
   P2 P3 P4 P5 P6 P7 P8 P9 P10 P11 : Example
 
--- "P2 2006-11-08 14:39:39 at 0: instant 1,162,996,779." (01, Examples); the weekday, a Wednesday, and the flags play no part
+-- "P2 2006-11-08 14:39:39 at 0: instant 1,162,996,779." (01, Examples); the weekday, a Wednesday, and the flags play no
+-- part
 abbrev time2 : ClockTime
 time2 = clockTime 14 39 39 (pos 0)
 
@@ -91,7 +92,8 @@ Holds P11 = readMinute (minute ++ (0 ∷ [])) ≡ refused 19
 
 pub examples-hold : (x : Example) → Holds x
 unfolding fillOutcomes correctMark numbers differ differences ruleBy reached Option·toList gapBefore firstGap gapAfter
-    runNumber readMinute minuteChecks minuteFields announced allSure binary twoDigits longs isOdd eqℤ isLeapYear monthLengths
+    runNumber readMinute minuteChecks minuteFields announced allSure binary twoDigits longs isOdd eqℤ isLeapYear
+    monthLengths
     daysInMonth dateExists fullYear knownDate daysOfYears daysBeforeMonth daysSinceEpoch modulo utcMinute timeExists
     offsetInRange isValid instantOf unixTime
 examples-hold P2 = refl

@@ -6,6 +6,8 @@ mod errors;
 mod fields;
 mod flags;
 mod lines;
+mod marks;
+mod minutes;
 mod numbers;
 mod output;
 mod strings;
@@ -29,7 +31,8 @@ fn answer(line: &[u8], out: &mut Buffer, at: usize) -> usize {
     n = digits::answer(line, out, n);
     n = times::answer(line, out, n);
     n = strings::answer(line, out, n);
-    written::answer(line, out, n)
+    n = written::answer(line, out, n);
+    minutes::answer(line, out, n)
 }
 
 // Puts the answer to a line, a question mark where it is no command.

@@ -43,6 +43,10 @@ pub fn wide(value: i16) -> i64 {
     value as i64
 }
 
+pub fn wide_i32(value: i32) -> i64 {
+    value as i64
+}
+
 pub fn put_signed(out: &mut Buffer, at: usize, value: i64) -> usize {
     let mut n = at;
     if value < 0 {

@@ -1,13 +1,18 @@
-// The commands that read a time string, and write what was read back: `standard`, `pzf` and `elv` with the string as
-// text.
+// The commands that read a time string, and write what was read back: `standard`, `pzf`, `gps` and `elv` with the
+// string as text; `read` tells the kind first.
 use crate::fields::Fields;
 use crate::flags;
 use crate::output;
 use crate::output::Buffer;
 use crate::text;
 use clock_time::ClockTime;
+use clock_time::Position;
 use clock_time::WriteAnswer;
 use layout::ReadAnswer;
+use meinberg_gps::GpsAnswer;
+use time_string::Kind;
+use time_string::KindAnswer;
+use time_string::TimeAnswer;
 
 fn put_field(out: &mut Buffer, n: usize, value: u64) -> usize {
     let m = output::put_number(out, n, value);
@@ -31,6 +36,13 @@ pub fn put_clock(out: &mut Buffer, at: usize, t: ClockTime) -> usize {
     n = put_field(out, n, t.second as u64);
     n = put_signed_field(out, n, output::wide(t.utc_offset));
     flags::put(out, n, t)
+}
+
+fn put_position(out: &mut Buffer, at: usize, p: Position) -> usize {
+    let mut n = output::put(out, at, b' ');
+    n = put_signed_field(out, n, output::wide_i32(p.latitude));
+    n = put_signed_field(out, n, output::wide_i32(p.longitude));
+    output::put_number(out, n, p.height as u64)
 }
 
 // Whether what was written is the string that was read.
@@ -73,6 +85,21 @@ fn put_pzf(out: &mut Buffer, at: usize, s: &[u8]) -> usize {
     }
 }
 
+fn put_gps(out: &mut Buffer, at: usize, s: &[u8]) -> usize {
+    match meinberg_gps::read_gps(s) {
+        GpsAnswer::Read(g) => {
+            let t = g.time;
+            let p = g.position;
+            let mut n = put_clock(out, at, t);
+            n = put_position(out, n, p);
+            let mut back = [0u8; 66];
+            let answer = meinberg_gps::write_gps(g, &mut back);
+            put_back(out, n, s, answer, &back)
+        }
+        GpsAnswer::Refused(e) => output::put_error(out, at, e),
+    }
+}
+
 fn put_elv(out: &mut Buffer, at: usize, s: &[u8]) -> usize {
     match elv_dcf7000::read_elv(s) {
         ReadAnswer::Read(t) => {
@@ -82,6 +109,38 @@ fn put_elv(out: &mut Buffer, at: usize, s: &[u8]) -> usize {
             put_back(out, n, s, answer, &back)
         }
         ReadAnswer::Refused(e) => output::put_error(out, at, e),
+    }
+}
+
+fn put_read(out: &mut Buffer, at: usize, answer: TimeAnswer) -> usize {
+    match answer {
+        TimeAnswer::Read(t) => put_clock(out, at, t),
+        TimeAnswer::ReadWithPosition(g) => {
+            let t = g.time;
+            let p = g.position;
+            let n = put_clock(out, at, t);
+            put_position(out, n, p)
+        }
+        TimeAnswer::Refused(e) => output::put_error(out, at, e),
+    }
+}
+
+fn put_kind(out: &mut Buffer, n: usize, kind: Kind) -> usize {
+    match kind {
+        Kind::Standard => output::put_all(out, n, b"standard "),
+        Kind::Pzf => output::put_all(out, n, b"pzf "),
+        Kind::Gps => output::put_all(out, n, b"gps "),
+        Kind::Elv => output::put_all(out, n, b"elv "),
+    }
+}
+
+fn put_any(out: &mut Buffer, at: usize, s: &[u8]) -> usize {
+    match time_string::kind_of(s) {
+        KindAnswer::Told(kind) => {
+            let n = put_kind(out, at, kind);
+            put_read(out, n, time_string::read(kind, s))
+        }
+        KindAnswer::Refused(e) => output::put_error(out, at, e),
     }
 }
 
@@ -105,6 +164,16 @@ fn pzf(line: &[u8], out: &mut Buffer, n: usize) -> usize {
     n
 }
 
+fn gps(line: &[u8], out: &mut Buffer, n: usize) -> usize {
+    let f = Fields::read(line, b"gps T");
+    if f.fits {
+        let t = text::decode(line, f.place_at(0));
+        let bytes = t.bytes;
+        return put_gps(out, n, text::first(&bytes, t.length));
+    }
+    n
+}
+
 fn elv(line: &[u8], out: &mut Buffer, n: usize) -> usize {
     let f = Fields::read(line, b"elv T");
     if f.fits {
@@ -115,10 +184,22 @@ fn elv(line: &[u8], out: &mut Buffer, n: usize) -> usize {
     n
 }
 
+fn read(line: &[u8], out: &mut Buffer, n: usize) -> usize {
+    let f = Fields::read(line, b"read T");
+    if f.fits {
+        let t = text::decode(line, f.place_at(0));
+        let bytes = t.bytes;
+        return put_any(out, n, text::first(&bytes, t.length));
+    }
+    n
+}
+
 // Puts the answer to a command of this module, and nothing for any other line.
 pub fn answer(line: &[u8], out: &mut Buffer, at: usize) -> usize {
     let mut n = at;
     n = standard(line, out, n);
     n = pzf(line, out, n);
-    elv(line, out, n)
+    n = gps(line, out, n);
+    n = elv(line, out, n);
+    read(line, out, n)
 }

@@ -12,8 +12,8 @@ use Rattle.recording.proofs.update.update.Tie as tie
 renew-requires-2 : tie.Need-renew-requires-2
 renew-requires-2 c κs =
     let d = c .before .before in
-    let e = sym (d .before .before .gap-after .ensures) ∙ ap gapOf (d .gap .given .1) in
-    (after-in _ _ _ e .1, search needs)
+    let h = after-in _ _ _ (sym (d .before .before .gap-after .ensures) ∙ ap gapOf (d .gap .given .1)) in
+    search needs
 
 add-result : tie.Need-add-result
 add-result c =

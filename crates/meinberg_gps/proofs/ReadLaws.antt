@@ -1,0 +1,59 @@
+-- Laws of reading a GPS string that fits its layout. Assumes nothing.
+use Prim.Native.Nat.{ℕ}
+use mathlib.Core.Path.{_≡_, refl, sym, _∙_}
+use mathlib.Core.Bool.{Bool, true, false, cond}
+use mathlib.Core.List.{List, [], _∷_}
+use Rattle.clock_time.specs.Errors.{Answer, accepted, refused, Check, checked}
+use Rattle.clock_time.specs.declared.ClockTime.{ClockTime}
+use Rattle.clock_time.specs.declared.Position.{Position}
+use Rattle.layout.specs.Layout.{FitsLayout}
+use Rattle.layout.specs.Text.{clockChecks}
+use Rattle.layout.specs.declared.LayoutCheck.the-variants.{Fits}
+use Rattle.layout.proofs.LayoutLaws.{fits-check}
+use Rattle.layout.proofs.TextLaws.{laterChecks, read-after}
+use Rattle.meinberg_gps.specs.Position.{positionFault, positionOf, readPosition}
+use Rattle.meinberg_gps.specs.Gps.{gpsLayout, offsetFault, leapMismatch, clockOf, gpsFields, gps, readGps}
+use Rattle.meinberg_gps.specs.declared.GpsTime.{GpsTime}
+
+-- a clock time with a position
+abbrev pub placed : Position → Answer ClockTime → Answer GpsTime
+placed p (accepted t) = accepted (record { time = t; position = p })
+placed p (refused k) = refused k
+
+checked-placed : (p : Position) (ks : List Check) (t : ClockTime)
+    → placed p (checked ks t) ≡ checked ks (record { time = t; position = p })
+checked-placed p [] t = refl
+checked-placed p (k ∷ ks) t = go (k .fails) (checked-placed p ks t)
+  where
+    go : (u : Bool) → placed p (checked ks t) ≡ checked ks (record { time = t; position = p })
+        → placed p (cond u (refused (k .number)) (checked ks t)) ≡ cond u (refused (k .number)) (checked ks (record { time = t; position = p }))
+    go true h = refl
+    go false h = h
+
+-- what the position read as is the answer, or else the clock time is left to check
+abbrev pub afterPosition : List ℕ → Answer Position → Answer GpsTime
+afterPosition s (accepted p) =
+    checked (clockChecks (clockOf s) (leapMismatch s)) (record { time = clockOf s; position = p })
+afterPosition s (refused k) = refused k
+
+pub read-clock : (s : List ℕ) (p : Position) {r : Answer ClockTime}
+    → r ≡ checked (clockChecks (clockOf s) (leapMismatch s)) (clockOf s) → placed p r ≡ afterPosition s (accepted p)
+read-clock s p h = rw h (checked-placed p (clockChecks (clockOf s) (leapMismatch s)) (clockOf s))
+
+module _ {s : List ℕ} (fit : FitsLayout gpsLayout s) where
+  read-fits : readGps s ≡ checked (laterChecks gps s) (gpsFields s)
+  unfolding readGps gps
+  read-fits = read-after gps s Fits (fits-check fit)
+
+  pub read-offset : offsetFault s ≡ true → readGps s ≡ refused 8
+  unfolding gps
+  read-offset h = read-fits ∙ rw h
+
+  pub read-placed : offsetFault s ≡ false → readGps s ≡ afterPosition s (readPosition s)
+  unfolding gps readPosition gpsFields
+  read-placed h = read-fits ∙ rw h (go (positionFault s))
+    where
+      go : (t : Bool) → cond t (refused 9) (checked (clockChecks (clockOf s) (leapMismatch s)) (gpsFields s))
+          ≡ afterPosition s (cond t (refused 9) (accepted (positionOf s)))
+      go true = refl
+      go false = refl

@@ -1,0 +1,13 @@
+-- `meinberg_gps::digits::is_digit` meets its contract. Assumes nothing.
+use mathlib.Core.Path.{refl}
+use Rattle.decimal.specs.Decimal.{isDigit}
+use Rattle.meinberg_gps.proofs.digits.is_digit.Statement.{statement}
+use Rattle.meinberg_gps.proofs.digits.is_digit.Tie as tie
+
+returns : tie.Need-returns
+unfolding isDigit
+returns c = refl
+
+pub is-digit-spec : {M : Type 1} → statement M
+is-digit-spec =
+    tie.close (tie.spec returns)

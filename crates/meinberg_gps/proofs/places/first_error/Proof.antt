@@ -1,0 +1,14 @@
+-- `meinberg_gps::places::first_error` meets its contract. Assumes nothing.
+use borrow.Author.Needs.{needs}
+use Rattle.layout.specs.Ascii.{ascii}
+use Rattle.meinberg_gps.specs.Gps.{gpsLayout}
+use Rattle.meinberg_gps.proofs.places.first_error.Statement.{statement}
+use Rattle.meinberg_gps.proofs.places.first_error.Tie as tie
+
+returns : tie.Need-returns
+unfolding ascii gpsLayout
+returns c = c .check-layout .ensures
+
+pub first-error-spec : {M : Type 1} → statement M
+first-error-spec =
+    tie.close (tie.spec (λ c. search needs) (λ c κs. search needs) returns)

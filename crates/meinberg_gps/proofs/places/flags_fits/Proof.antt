@@ -1,0 +1,34 @@
+-- `meinberg_gps::places::flags_fits` meets its contract: it is the layout's own test, place by place. Assumes nothing.
+use borrow.Author.Needs.{needs}
+use mathlib.Core.Path.{refl}
+use Rattle.layout.specs.Ascii.{ascii}
+use Rattle.layout.specs.Layout.{allowed, fitsFrom}
+use Rattle.meinberg_gps.specs.Gps.{gpsLayout}
+use Rattle.meinberg_gps.proofs.places.flags_fits.Statement.{statement}
+use Rattle.meinberg_gps.proofs.places.flags_fits.Tie as tie
+
+returns : tie.Need-returns
+unfolding fitsFrom allowed ascii gpsLayout
+returns c = refl
+
+pub flags-fits-spec : {M : Type 1} → statement M
+flags-fits-spec =
+    tie.close
+    (tie.spec
+    (λ c. search needs)
+    (λ c. search needs)
+    (λ c. search needs)
+    (λ c. search needs)
+    (λ c. search needs)
+    (λ c. search needs)
+    (λ c. search needs)
+    (λ c. search needs)
+    (λ c. search needs)
+    (λ c. search needs)
+    (λ c. search needs)
+    (λ c. search needs)
+    (λ c. search needs)
+    (λ c. search needs)
+    (λ c. search needs)
+    (λ c. search needs)
+    returns)

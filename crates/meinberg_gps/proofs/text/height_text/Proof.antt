@@ -1,0 +1,21 @@
+-- `meinberg_gps::text::height_text` meets its contract. Assumes nothing.
+use borrow.Author.Needs.{needs}
+use Rattle.meinberg_gps.specs.Aligned.{padded, aligned}
+use Rattle.meinberg_gps.proofs.text.height_text.Statement.{statement}
+use Rattle.meinberg_gps.proofs.text.height_text.Tie as tie
+
+returns : tie.Need-returns
+unfolding aligned padded
+returns c =
+    simp (c .digit-or-blank3 .ensures, c .before .digit-or-blank2 .ensures, c .before .before .digit-or-blank .ensures)
+
+pub height-text-spec : {M : Type 1} → statement M
+height-text-spec =
+    tie.close
+    (tie.spec
+    (λ c κs. search needs)
+    (λ c κs. search needs)
+    (λ c κs. search needs)
+    (λ c. search needs)
+    (λ c. search needs)
+    returns)

@@ -1,0 +1,33 @@
+-- `meinberg_gps::text::latitude_text` meets its contract. Assumes nothing.
+use borrow.Author.Needs.{needs}
+use mir.Facts.{toZ-ofZ}
+use Rattle.decimal.specs.Decimal.{digits}
+use Rattle.layout.specs.Ascii.{ascii}
+use Rattle.meinberg_gps.specs.Aligned.{padded, aligned}
+use Rattle.meinberg_gps.specs.Position.{angleText}
+use Rattle.meinberg_gps.proofs.text.latitude_text.Statement.{statement}
+use Rattle.meinberg_gps.proofs.text.latitude_text.Tie as tie
+
+returns : tie.Need-returns
+unfolding angleText aligned padded ascii digits
+returns c =
+    let f = c .before .before .before .before .fits .angle in
+    let size = rw (toZ-ofZ f) at (c .before .before .before .size .ensures) in
+    let letter = rw (toZ-ofZ f) at (c .sign-byte .ensures) in
+    simp (letter, c .before .decimals .ensures, c .before .before .digit-or-blank .ensures, size)
+
+pub latitude-text-spec : {M : Type 1} → statement M
+latitude-text-spec =
+    tie.close
+    (tie.spec
+    (λ c κs. search needs)
+    (λ c κs. search needs)
+    (λ c κs. search needs)
+    (λ c κs. search needs)
+    (λ c. search needs)
+    (λ c. search needs)
+    (λ c. search needs)
+    (λ c. search needs)
+    (λ c. search needs)
+    (λ c. search needs)
+    returns)

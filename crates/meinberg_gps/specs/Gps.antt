@@ -1,0 +1,136 @@
+-- The Meinberg GPS string, 66 bytes. Assumes nothing.
+use Prim.Native.Nat.{ℕ, _+_, _*_, _/_, _%_}
+use Prim.Native.Char.{code}
+use mathlib.Core.Bool.{Bool, false, not, _&&_, Bool·beq}
+use mathlib.Core.List.{List, [], _∷_, _++_}
+use lib.Dec.{leb, eqb}
+use lib.ListN.{getD}
+use lib.IntN.{ℤ, natAbs}
+use Rattle.clock_time.specs.Errors.{Answer, accepted, refused, errorNumber}
+use Rattle.clock_time.specs.Same.{sameTime, samePosition}
+use Rattle.clock_time.specs.Writing.{Outcome}
+use Rattle.clock_time.specs.declared.ClockTime.{ClockTime}
+use Rattle.calendar.specs.Date.{fullYear}
+use Rattle.decimal.specs.Decimal.{digits}
+use Rattle.layout.specs.Ascii.{ascii}
+use Rattle.layout.specs.Layout.{digit, free, flag, places, number, has}
+use Rattle.layout.specs.Text.{Format, readText, writeText, letter}
+use Rattle.meinberg_gps.specs.Signed.{signed, signHolds, signByte}
+use Rattle.meinberg_gps.specs.Aligned.{aligned}
+use Rattle.meinberg_gps.specs.Position as place
+use Rattle.meinberg_gps.specs.Position.{positionFault, positionOf, angleText}
+use Rattle.meinberg_gps.specs.declared.GpsTime.{GpsTime}
+use Rattle.meinberg_gps.specs.declared.GpsAnswer.{GpsAnswer}
+use Rattle.meinberg_gps.specs.declared.GpsAnswer.the-variants.{Read, Refused}
+
+-- "As PZF up to place 22; blank at 23; sign at 24; offset digits at 25, 26, 28, 29 with `:` at 27; `;` 30; blank 31; flags
+-- uvxyzab at 32..38; `;` 39; blank 40; latitude 41..48; blank 49; longitude 50..58; blank 59; height 60..63; `m` 64; ETX
+-- 65." (01, Meinberg and ELV strings); PZF begins `STX dd.mm.yy; w; hh:mm:ss;`
+unfoldable pub gpsLayout : List ℕ
+gpsLayout =
+    ascii "\u{2}" ++ places 2 digit ++ ascii "." ++ places 2 digit ++ ascii "." ++ places 2 digit
+    ++ ascii "; " ++ places 1 digit
+    ++ ascii "; " ++ places 2 digit ++ ascii ":" ++ places 2 digit ++ ascii ":" ++ places 2 digit
+    ++ ascii "; " ++ places 1 free ++ places 2 digit ++ ascii ":" ++ places 2 digit
+    ++ ascii "; " ++ (flag "#" ∷ flag "*" ∷ flag "S" ∷ flag "!" ∷ flag "A" ∷ flag "R" ∷ flag "L" ∷ [])
+    ++ ascii "; " ++ places 2 free ++ ascii "." ++ places 5 free
+    ++ ascii " " ++ places 3 free ++ ascii "." ++ places 5 free
+    ++ ascii " " ++ places 4 free ++ ascii "m\u{3}"
+
+-- ---- the offset
+abbrev pub offsetSize : List ℕ → ℕ
+offsetSize s = 60 * number 2 25 s + number 2 28 s
+
+-- "Offset at most 14:00 either way, its minutes at most 59; `-00:00` is refused with 8." (01, Meinberg and ELV strings); so
+-- is a byte at 24 that is no sign
+unfoldable pub offsetFault : List ℕ → Bool
+offsetFault s = not (leb (number 2 28 s) 59 && signHolds (code "+") (code "-") 840 (getD s 24 0) (offsetSize s))
+
+unfoldable pub offsetOf : List ℕ → ℤ
+offsetOf s = signed (has "-" 24 s) (offsetSize s)
+
+unfoldable pub offsetText : ℤ → List ℕ
+offsetText z = signByte (code "+") (code "-") z ∷ digits 2 (natAbs z / 60) ++ ascii ":" ++ digits 2 (natAbs z % 60)
+
+-- ---- the fields
+-- "b must be `L` exactly if the second is 60 (wrong letter 4, mismatch 6)." (01, Meinberg and ELV strings)
+unfoldable pub leapMismatch : List ℕ → Bool
+leapMismatch s = not (Bool·beq (has "L" 38 s) (eqb (number 2 20 s) 60))
+
+-- "u `#`, v `*`, x `S`, y `!`, z `A`, a `R`, or blank", "x is only the summer flag" (01, Meinberg and ELV strings)
+unfoldable pub clockOf : List ℕ → ClockTime
+clockOf s =
+    record {
+      year = fullYear (number 2 7 s);
+      month = number 2 4 s;
+      day = number 2 1 s;
+      weekday = number 1 11 s;
+      hour = number 2 14 s;
+      minute = number 2 17 s;
+      second = number 2 20 s;
+      «utc_offset» = offsetOf s;
+      unsynchronised = has "#" 32 s;
+      unverified = has "*" 33 s;
+      «summer_time» = has "S" 34 s;
+      «dst_change_announced» = has "!" 35 s;
+      «leap_second_announced» = has "A" 36 s;
+      «alternate_antenna» = has "R" 37 s;
+    }
+
+unfoldable pub gpsFields : List ℕ → GpsTime
+gpsFields s = record { time = clockOf s; position = positionOf s }
+
+unfoldable pub flagsText : ClockTime → List ℕ
+flagsText t =
+    letter (t .unsynchronised) "#"
+    ∷ letter (t .unverified) "*"
+    ∷ letter (t .«summer_time») "S"
+    ∷ letter (t .«dst_change_announced») "!"
+    ∷ letter (t .«leap_second_announced») "A"
+    ∷ letter (t .«alternate_antenna») "R"
+    ∷ letter (eqb (t .second) 60) "L"
+    ∷ []
+
+-- the layout with the fields of a clock time in it, and the bytes of an offset, of flags, of two angles and of a height
+unfoldable pub lineOf : ClockTime → List ℕ → List ℕ → List ℕ → List ℕ → List ℕ → List ℕ
+lineOf t offset flags latitude longitude height =
+    ascii "\u{2}" ++ digits 2 (t .day) ++ ascii "." ++ digits 2 (t .month) ++ ascii "." ++ digits 2 (t .year)
+    ++ ascii "; " ++ digits 1 (t .weekday)
+    ++ ascii "; " ++ digits 2 (t .hour) ++ ascii ":" ++ digits 2 (t .minute) ++ ascii ":" ++ digits 2 (t .second)
+    ++ ascii "; " ++ offset
+    ++ ascii "; " ++ flags
+    ++ ascii "; " ++ latitude ++ ascii " " ++ longitude ++ ascii " " ++ height ++ ascii "m\u{3}"
+
+unfoldable pub gpsText : GpsTime → List ℕ
+gpsText g =
+    let t = g .time in
+    let p = g .position in
+    lineOf t (offsetText (t .«utc_offset»)) (flagsText t)
+    (angleText place.latitude (p .latitude)) (angleText place.longitude (p .longitude)) (aligned 4 (p .height))
+
+unfoldable pub sameGps : GpsTime → GpsTime → Bool
+sameGps a b = sameTime (a .time) (b .time) && samePosition (a .position) (b .position)
+
+unfoldable pub gps : Format GpsTime
+gps =
+    record {
+      layout = gpsLayout;
+      flagFault = λ s. false;
+      offsetFault = offsetFault;
+      positionFault = positionFault;
+      mismatch = leapMismatch;
+      fields = gpsFields;
+      clock = λ g. g .time;
+      text = gpsText;
+      same = sameGps;
+    }
+
+unfoldable pub readGps : List ℕ → Answer GpsTime
+readGps s = readText gps s
+
+unfoldable pub writeGps : GpsTime → List ℕ → Outcome
+writeGps g buffer = writeText gps g buffer
+
+abbrev pub gpsAnswer : GpsAnswer → Answer GpsTime
+gpsAnswer (Read g) = accepted g
+gpsAnswer (Refused e) = refused (errorNumber e)

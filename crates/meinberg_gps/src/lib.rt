@@ -1,0 +1,131 @@
+// The Meinberg GPS string.
+use crate::position::PositionAnswer;
+use clock_time::ClockTime;
+use clock_time::Error;
+use clock_time::Position;
+use clock_time::WriteAnswer;
+use layout::LayoutCheck;
+use layout::ReadAnswer;
+ghost use mathlib.Core.Path.{_≡_};
+ghost use Rattle.clock_time.specs.Errors.{checked};
+ghost use lib.ListN.{length};
+ghost use Rattle.layout.specs.Layout.{FitsLayout};
+ghost use Rattle.clock_time.specs.Writing.{isAccepted, outcome};
+ghost use Rattle.layout.specs.Text.{clockChecks};
+ghost use Rattle.meinberg_gps.specs.Gps.{gpsLayout, leapMismatch, clockOf, readGps, gpsAnswer};
+ghost use Rattle.meinberg_gps.specs.Gps.{sameGps, writeGps};
+
+mod digits;
+mod offset;
+mod places;
+mod position;
+mod signed;
+mod text;
+
+// What a GPS string says.
+pub struct GpsTime {
+    pub time: ClockTime,
+    pub position: Position,
+}
+
+// What was read, or the error.
+pub enum GpsAnswer {
+    Read(GpsTime),
+    Refused(Error),
+}
+
+fn clock(s: &[u8]) -> ClockTime
+    requires { ⌜ (length (now s) ≡ 66) × FitsLayout gpsLayout (now s) ⌝ }
+    ensures { λ r. ⌜ r ≡ clockOf (now (s .entry)) ⌝ }
+{
+    ClockTime {
+        year: calendar::date::full_year(digits::pair_at(s, 7)),
+        month: digits::pair_at(s, 4),
+        day: digits::pair_at(s, 1),
+        weekday: digits::digit_at(s, 11),
+        hour: digits::pair_at(s, 14),
+        minute: digits::pair_at(s, 17),
+        second: digits::pair_at(s, 20),
+        utc_offset: offset::read(s),
+        unsynchronised: s[32] == b'#',
+        unverified: s[33] == b'*',
+        summer_time: s[34] == b'S',
+        dst_change_announced: s[35] == b'!',
+        leap_second_announced: s[36] == b'A',
+        alternate_antenna: s[37] == b'R',
+    }
+}
+
+// Whether the letter for second 60 and the second disagree.
+fn mismatch(s: &[u8]) -> bool
+    requires { ⌜ (length (now s) ≡ 66) × FitsLayout gpsLayout (now s) ⌝ }
+    ensures { λ r. ⌜ r ≡ leapMismatch (now (s .entry)) ⌝ }
+{
+    (s[38] == b'L') != (digits::pair_at(s, 20) == 60)
+}
+
+fn read_clock(s: &[u8], position: Position) -> GpsAnswer
+    requires { ⌜ (length (now s) ≡ 66) × FitsLayout gpsLayout (now s) ⌝ }
+    ensures { λ r. ⌜ gpsAnswer r ≡ checked (clockChecks (clockOf (now (s .entry))) (leapMismatch (now (s .entry)))) (record { time = clockOf (now (s .entry)); position = position }) ⌝ }
+{
+    match layout::check_clock(clock(s), mismatch(s)) {
+        ReadAnswer::Read(time) => GpsAnswer::Read(GpsTime {
+            time: time,
+            position: position,
+        }),
+        ReadAnswer::Refused(e) => GpsAnswer::Refused(e),
+    }
+}
+
+fn read_fitting(s: &[u8]) -> GpsAnswer
+    requires { ⌜ (length (now s) ≡ 66) × FitsLayout gpsLayout (now s) ⌝ }
+    ensures { λ r. ⌜ gpsAnswer r ≡ readGps (now (s .entry)) ⌝ }
+{
+    if offset::is_faulty(s) {
+        return GpsAnswer::Refused(Error::UtcOffset);
+    }
+    match position::read(s) {
+        PositionAnswer::Read(p) => read_clock(s, p),
+        PositionAnswer::Refused(e) => GpsAnswer::Refused(e),
+    }
+}
+
+// Reads a Meinberg GPS string: the clock time with the position, or the first of 1, 2, 3, 4, 8, 9, 5, 6 and 7 that holds.
+pub fn read_gps(s: &[u8]) -> GpsAnswer
+    ensures { λ r. ⌜ gpsAnswer r ≡ readGps (now (s .entry)) ⌝ }
+{
+    match places::check(s) {
+        LayoutCheck::Offends(e, _) => GpsAnswer::Refused(e),
+        LayoutCheck::Fits => read_fitting(s),
+    }
+}
+
+fn same_gps(a: GpsTime, b: GpsTime) -> bool
+    ensures { λ r. ⌜ r ≡ sameGps a b ⌝ }
+{
+    let time = a.time;
+    let other_time = b.time;
+    let position = a.position;
+    let other_position = b.position;
+    clock_time::same_time(time, other_time) & clock_time::same_position(position, other_position)
+}
+
+// True where `a` is `g`.
+fn is_read_as(a: GpsAnswer, g: GpsTime) -> bool
+    ensures { λ r. ⌜ r ≡ isAccepted sameGps (gpsAnswer a) g ⌝ }
+{
+    match a {
+        GpsAnswer::Read(b) => same_gps(b, g),
+        GpsAnswer::Refused(_) => false,
+    }
+}
+
+// Writes a clock time and a position as a Meinberg GPS string to the front of `out`: 23 where no such string is read as
+// them, 20 where there is no room for 66 bytes.
+pub fn write_gps(g: GpsTime, out: &mut [u8]) -> WriteAnswer
+    ensures { λ r. ⌜ outcome r (now (out .exit)) ≡ writeGps g (now (out .entry)) ⌝ }
+{
+    let line = text::text_of(g);
+    let readable = is_read_as(read_gps(&line), g);
+    clock_time::write_bytes(readable, &line, out)
+}

@@ -1,0 +1,30 @@
+// The UTC offset of a GPS string.
+use crate::digits;
+use crate::signed;
+ghost use mathlib.Core.Path.{_≡_};
+ghost use lib.ListN.{length};
+ghost use Rattle.layout.specs.Layout.{FitsLayout};
+ghost use Rattle.meinberg_gps.specs.Gps.{gpsLayout, offsetSize, offsetFault, offsetOf};
+
+fn size(s: &[u8]) -> u32
+    requires { ⌜ (length (now s) ≡ 66) × FitsLayout gpsLayout (now s) ⌝ }
+    ensures { λ r. ⌜ r ≡ offsetSize (now (s .entry)) ⌝ }
+{
+    60 * (digits::pair_at(s, 25) as u32) + digits::pair_at(s, 28) as u32
+}
+
+// Whether the offset breaks a rule.
+pub(crate) fn is_faulty(s: &[u8]) -> bool
+    requires { ⌜ (length (now s) ≡ 66) × FitsLayout gpsLayout (now s) ⌝ }
+    ensures { λ r. ⌜ r ≡ offsetFault (now (s .entry)) ⌝ }
+{
+    let minutes = digits::pair_at(s, 28);
+    !((minutes <= 59) & signed::sign_holds(b'+', b'-', 840, s[24], size(s)))
+}
+
+pub(crate) fn read(s: &[u8]) -> i16
+    requires { ⌜ (length (now s) ≡ 66) × FitsLayout gpsLayout (now s) ⌝ }
+    ensures { λ r. ⌜ r ≡ offsetOf (now (s .entry)) ⌝ }
+{
+    signed::with_sign(s[24] == b'-', size(s)) as i16
+}

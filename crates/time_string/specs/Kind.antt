@@ -1,0 +1,58 @@
+-- The kind of a time string, and reading by kind. Assumes nothing.
+use Prim.Native.Nat.{ℕ}
+use mathlib.Core.Bool.{cond}
+use mathlib.Core.List.{List}
+use lib.Dec.{eqb}
+use lib.ListN.{length}
+use Rattle.clock_time.specs.Errors.{Answer, accepted, refused, errorNumber}
+use Rattle.clock_time.specs.declared.ClockTime.{ClockTime}
+use Rattle.layout.specs.Layout.{has}
+use Rattle.meinberg_standard.specs.Standard.{readStandard}
+use Rattle.meinberg_pzf.specs.Pzf.{readPzf}
+use Rattle.meinberg_gps.specs.Gps.{readGps}
+use Rattle.meinberg_gps.specs.declared.GpsTime.{GpsTime}
+use Rattle.elv_dcf7000.specs.Elv.{readElv}
+use Rattle.time_string.specs.declared.Kind.{Kind}
+use Rattle.time_string.specs.declared.Kind.the-variants.{Standard, Pzf, Gps, Elv}
+use Rattle.time_string.specs.declared.KindAnswer.{KindAnswer}
+use Rattle.time_string.specs.declared.KindAnswer.the-variants as kinds
+use Rattle.time_string.specs.declared.TimeAnswer.{TimeAnswer}
+use Rattle.time_string.specs.declared.TimeAnswer.the-variants as times
+
+-- "66 long is GPS; 32 long is standard if place 1 holds `D`, else PZF; 21 long is ELV; any other length is refused with 1."
+-- (01, Meinberg and ELV strings)
+unfoldable pub kindOf : List ℕ → Answer Kind
+kindOf s =
+    cond (eqb (length s) 66) (accepted Gps)
+    (cond (eqb (length s) 32) (accepted (cond (has "D" 1 s) Standard Pzf))
+    (cond (eqb (length s) 21) (accepted Elv)
+    (refused 1)))
+
+abbrev pub kindAnswer : KindAnswer → Answer Kind
+kindAnswer (kinds.Told k) = accepted k
+kindAnswer (kinds.Refused e) = refused (errorNumber e)
+
+-- "A GPS string adds position and height" (01, The reading)
+pub data Reading : Type 0 where
+  time : ClockTime → Reading
+  timeAndPosition : GpsTime → Reading
+
+abbrev pub plain : Answer ClockTime → Answer Reading
+plain (accepted t) = accepted (time t)
+plain (refused k) = refused k
+
+abbrev pub located : Answer GpsTime → Answer Reading
+located (accepted g) = accepted (timeAndPosition g)
+located (refused k) = refused k
+
+-- "The caller names the kind" (01, Meinberg and ELV strings)
+unfoldable pub readAs : Kind → List ℕ → Answer Reading
+readAs Standard s = plain (readStandard s)
+readAs Pzf s = plain (readPzf s)
+readAs Gps s = located (readGps s)
+readAs Elv s = plain (readElv s)
+
+abbrev pub timeAnswer : TimeAnswer → Answer Reading
+timeAnswer (times.Read t) = accepted (time t)
+timeAnswer (times.ReadWithPosition g) = accepted (timeAndPosition g)
+timeAnswer (times.Refused e) = refused (errorNumber e)

@@ -1,0 +1,11 @@
+-- `vectors::output::wide_i32` is safe: a wider type holds the number. Assumes nothing.
+use borrow.Author.Needs.{needs}
+use mir.Facts.{toZ-ofZ, sfits-widen}
+use Rattle.vectors.proofs.output.wide_i32.Statement.{statement}
+use Rattle.vectors.proofs.output.wide_i32.Tie as tie
+
+cast-result : tie.Need-cast-result
+cast-result c = rw (toZ-ofZ (c .fits .value)) (sfits-widen tt (c .fits .value))
+
+pub wide-i32-spec : {M : Type 1} → statement M
+wide-i32-spec = tie.close (tie.spec cast-result (λ c. search needs))

@@ -1,17 +1,15 @@
 -- A run of marks is read exactly if the rules hold. Assumes nothing.
-use Prim.Native.Nat.{ℕ, _≤_}
-use native.Mathlib.Omega.{arith}
-use mathlib.Core.Path.{_≡_, refl, sym, _∙_}
-use mathlib.Core.Logic.{_⊎_, inl, inr, ⊎-elim}
-use mathlib.Core.Bool.{Bool, true, false, not, _&&_, _||_, true≢false}
+use Prim.Native.Nat.{ℕ}
+use mathlib.Core.Path.{_≡_, refl}
+use mathlib.Core.Bool.{Bool, true, false, not, _&&_}
 use mathlib.Core.List.{List}
 use lib.Dec.{leb, eqb}
-use lib.ListN.{length, getD, drop}
-use borrow.Author.Tests.{not-true, not-false, eqb-true, eqb-false, eq-eqb, ne-eqb, leb-true, le-leb}
+use lib.ListN.{length, drop}
+use borrow.Author.Tests.{not-false, eqb-true, eqb-false, eq-eqb, ne-eqb, leb-true, le-leb}
 use Rattle.clock_time.specs.Errors.{accepted}
 use Rattle.clock_time.proofs.ErrorLaws.{Passes, accepted-passes, passes-accepted}
 use Rattle.clock_time.proofs.Tests.{both}
-use Rattle.dcf77.specs.Marks.{long, short, binary, allSure, isOdd}
+use Rattle.dcf77.specs.Marks.{long, short, binary, isOdd}
 use Rattle.dcf77.specs.Minute.{announced, minuteFields, minuteChecks, readMinute}
 use Rattle.dcf77.specs.Accepts.{AcceptsMinute}
 use Rattle.dcf77.specs.declared.MinuteTime.{MinuteTime}

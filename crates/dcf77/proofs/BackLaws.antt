@@ -1,19 +1,17 @@
 -- An accepted run of marks is the one that its fields are written as. Assumes nothing.
-use Prim.Native.Nat.{ℕ, suc, _+_, _/_, _%_, _≤_, _<_}
+use Prim.Native.Nat.{ℕ, _+_, _/_, _%_, _≤_, _<_}
 use native.Mathlib.Omega.{arith}
 use native.Mathlib.Decide.{ℕ-discrete}
-use mathlib.Core.Path.{_≡_, refl, sym, ap, _∙_}
+use mathlib.Core.Path.{_≡_, refl, ap, _∙_}
 use mathlib.Core.Logic.{⊎-elim}
-use mathlib.Core.Bool.{Bool, true, false, cond, not}
+use mathlib.Core.Bool.{cond, not}
 use mathlib.Core.List.{List, [], _∷_, _++_}
 use lib.Dec.{eqb}
 use lib.ListN.{length, getD}
 use borrow.Author.Tests.{eq-eqb, ne-eqb}
-use Rattle.calendar.specs.Date.{sum, fullYear}
-use Rattle.dcf77.specs.Marks.{long, binary, twoDigits, bits}
+use Rattle.dcf77.specs.Marks.{long, twoDigits, bits}
 use Rattle.dcf77.specs.Minute.{announced, minuteFields, mark, withParity, firstMarks, minuteText}
 use Rattle.dcf77.specs.Accepts.{AcceptsMinute}
-use Rattle.dcf77.proofs.MarkLaws.{binary-below, small-sure}
 use Rattle.dcf77.proofs.BitLaws.{marksFrom, marks-all, bits-binary, parity-mark}
 use Rattle.dcf77.proofs.BitLaws.{ones-digit, tens-digit, year-digits}
 

@@ -1,8 +1,8 @@
 -- The line of 60 marks that a minute's run is a part of. Assumes nothing.
-use Prim.Native.Nat.{ℕ, _+_}
+use Prim.Native.Nat.{_+_}
 use mathlib.Core.Path.{_≡_, refl}
 use mathlib.Core.Bool.{Bool, true, false, cond}
-use mathlib.Core.List.{List, [], _∷_, _++_}
+use mathlib.Core.List.{[], _∷_, _++_}
 use lib.ListN.{length, take}
 use mir.Val.{boolByte}
 use Rattle.dcf77.specs.Marks.{bits}

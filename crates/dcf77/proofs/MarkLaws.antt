@@ -4,13 +4,13 @@ use native.Mathlib.Nat.{add-zero, zero-add, add-suc, suc-add, add-comm, mul-comm
 use native.Mathlib.Decide.{decLt}
 use native.Mathlib.Numerals.{add-one}
 use native.Mathlib.Omega.{arith}
-use mathlib.Core.Path.{_≡_, refl, sym, ap, ap₂, _∙_}
-use mathlib.Core.Bool.{Bool, true, false, _&&_, and-assoc}
+use mathlib.Core.Path.{_≡_, refl, sym, _∙_}
+use mathlib.Core.Bool.{true, _&&_, and-assoc}
 use mathlib.Core.List.{List, [], _∷_}
 use lib.Dec.{ltb}
 use lib.ListN.{length, getD, drop}
 use lib.Seq.{drop-cons}
-use lib.Bits.{bitOr, bitAnd, or-lt, or-comm, or-add-and, and-le-r}
+use lib.Bits.{bitOr, or-lt, or-comm, or-add-and, and-le-r}
 use lib.Count.{ones, ones-step}
 use lib.Arith.{digits-div, digits-mod}
 use borrow.Author.Tests.{ltb-true, lt-ltb, le-ltb}
@@ -26,7 +26,9 @@ pub or-sure : (a b : ℕ) → ltb (bitOr a b) 2 ≡ (ltb a 2 && ltb b 2)
 or-sure a b = elim (decLt a 2) [
   | yes p ↦ elim (decLt b 2) [
     | yes q ↦ simp (lt-ltb _ _ (or-lt 1 a b p q), lt-ltb _ _ p, lt-ltb _ _ q)
-    | no q ↦ simp (le-ltb (bitOr a b) 2 (omega (arith, or-above b a, or-comm a b)), lt-ltb _ _ p, le-ltb b 2 (omega arith))
+    | no q ↦
+        let h : 2 ≤ bitOr a b = omega (arith, or-above b a, or-comm a b) in
+        simp (le-ltb _ _ h, lt-ltb _ _ p, le-ltb b 2 (omega arith))
   ]
   | no p ↦ simp (le-ltb (bitOr a b) 2 (omega (arith, or-above a b)), le-ltb a 2 (omega arith))
 ]
@@ -58,12 +60,12 @@ binary-split m (suc j) n at =
     rw (suc-add, add-suc, ← suc-add, binary-split m j n (suc at), pow-succ', mul-assoc) (omega arith)
 
 pub binary-four : (m : List ℕ) (at : ℕ)
-    → binary 4 at m ≡ getD m at 0 + 2 * (getD m (at + 1) 0 + 2 * (getD m (at + 2) 0 + 2 * (getD m (at + 3) 0 + 0)))
+    → binary 4 at m ≡ getD m at 0 + 2 * (getD m (at + 1) 0 + 2 * (getD m (at + 2) 0 + 2 * getD m (at + 3) 0))
 unfolding binary
 binary-four m at =
     let two : at + 2 ≡ suc (suc at) = omega arith in
     let three : at + 3 ≡ suc (suc (suc at)) = omega arith in
-    rw (add-one, two, three)
+    rw (add-one, two, three, add-zero)
 
 module _ {lo p : ℕ} (hi : ℕ) (h : lo < p) where
   pub high-part : (lo + p * hi) / p ≡ hi
@@ -100,8 +102,10 @@ module _ (m : List ℕ) (sure : allSure m ≡ true) where
 
 -- four marks in four bytes, and the product that has them side by side at bit 24
 pub side-by-side : (a b c d : ℕ) → a ≤ 1 → b ≤ 1 → c ≤ 1 → d ≤ 1
-    → (a + 256 * (b + 256 * (c + 256 * d))) * 16909320 / 16777216 % 16 ≡ a + 2 * (b + 2 * (c + 2 * (d + 0)))
+    → (a + 256 * (b + 256 * (c + 256 * d))) * 16909320 / 16777216 % 16 ≡ a + 2 * (b + 2 * (c + 2 * d))
 side-by-side a b c d p q r s =
     let n = a + 2 * (b + 2 * (c + 2 * d)) in
-    let high : (a + 256 * (b + 256 * (c + 256 * d))) * 16909320 / 16777216 ≡ n + 16 * (16 * (b + 258 * c + 66052 * d)) = omega arith in
+    let bytes = a + 256 * (b + 256 * (c + 256 * d)) in
+    let above = 16 * (b + 258 * c + 66052 * d) in
+    let high : bytes * 16909320 / 16777216 ≡ n + 16 * above = omega arith in
     rw high (omega arith)

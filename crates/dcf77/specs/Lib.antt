@@ -1,5 +1,5 @@
 -- The definitions that the contracts and the main results cite.
 pub mod Marks
-pub mod Numbers
 pub mod Minute
 pub mod Accepts
+pub mod Numbers

@@ -1,6 +1,6 @@
 -- One DCF77 minute: the marks between two gaps, and the time that they announce. Assumes nothing.
 use Prim.Native.Nat.{ℕ, _+_, _*_, _/_, _%_}
-use mathlib.Core.Bool.{Bool, true, false, cond, not, _&&_, _||_, Bool·beq}
+use mathlib.Core.Bool.{Bool, false, cond, not, _&&_, _||_, Bool·beq}
 use mathlib.Core.List.{List, [], _∷_, _++_}
 use lib.Dec.{leb, eqb}
 use lib.ListN.{length, getD}
@@ -9,7 +9,6 @@ use Rattle.clock_time.specs.Errors.{Answer, accepted, refused, errorNumber, Che
 use Rattle.clock_time.specs.Same.{eqℤ, sameTime}
 use Rattle.clock_time.specs.Writing.{Outcome, writeBack}
 use Rattle.clock_time.specs.declared.ClockTime.{ClockTime}
-use Rattle.clock_time.specs.declared.MinuteDetail.{MinuteDetail}
 use Rattle.calendar.specs.Date.{dateExists, fullYear, sum, daysSinceEpoch}
 use Rattle.calendar.specs.TimeOfDay.{timeExists}
 use Rattle.dcf77.specs.Marks.{long, short, allSure, binary, twoDigits, isOdd, bits}
@@ -17,11 +16,11 @@ use Rattle.dcf77.specs.declared.MinuteTime.{MinuteTime}
 use Rattle.dcf77.specs.declared.MinuteAnswer.{MinuteAnswer}
 use Rattle.dcf77.specs.declared.MinuteAnswer.the-variants.{Read, Refused}
 
--- "15 antenna [..]; 16 change coming; 17, 18 zone: 0 1 offset 60, 1 0 offset 120 and summer time; 19 leap second coming [..]
--- minute 21..24 and tens 25..27, parity 28; hour 29..32, tens 33..34, parity 35; day 36..39, tens 40..41; weekday 42..44; month
--- 45..48, ten 49; year 50..53, tens 54..57; parity 58. The sources give 45..49 and 50 for the month and 51..53 for the year: PTB
--- decides. [..] A minute announces the time at which the next minute starts, second 0; the zone is that of the announced time."
--- (01, DCF77 marks)
+-- "15 antenna [..]; 16 change coming; 17, 18 zone: 0 1 offset 60, 1 0 offset 120 and summer time; 19 leap second coming
+-- [..] minute 21..24 and tens 25..27, parity 28; hour 29..32, tens 33..34, parity 35; day 36..39, tens 40..41; weekday
+-- 42..44; month 45..48, ten 49; year 50..53, tens 54..57; parity 58. The sources give 45..49 and 50 for the month and
+-- 51..53 for the year: PTB decides. [..] A minute announces the time at which the next minute starts, second 0; the
+-- zone is that of the announced time." (01, DCF77 marks)
 unfoldable pub announced : List ℕ → ClockTime
 announced m =
     record {
@@ -70,9 +69,11 @@ minuteChecks m =
     ∷ given 19 (eqb (length m) 60 && not (long 19 m && short 59 m && eqb (t .minute) 0))
     ∷ []
 
+-- "Each number is given when its line holds and no earlier one does, and never otherwise." (01, Refusal numbers)
 unfoldable pub readMinute : List ℕ → Answer MinuteTime
 readMinute m = checked (minuteChecks m) (minuteFields m)
 
+-- what the code's answer says
 abbrev pub minuteAnswer : MinuteAnswer → Answer MinuteTime
 minuteAnswer (Read t) = accepted t
 minuteAnswer (Refused e) = refused (errorNumber e)
@@ -98,20 +99,24 @@ firstMarks a =
     (bits 4 (t .day % 10) ++ bits 2 (t .day / 10) ++ bits 3 (t .weekday)
     ++ bits 4 (t .month % 10) ++ bits 1 (t .month / 10) ++ bits 4 (t .year % 10) ++ bits 4 (t .year / 10 % 10))
 
--- "Second 59 has no mark, except before a leap second" (01, DCF77 marks); that mark is short
+-- "Second 59 has no mark, except before a leap second" (01, DCF77 marks); "mark 59 short" (01, Refusal numbers, 19)
 unfoldable pub minuteText : MinuteTime → List ℕ
 minuteText a = firstMarks a ++ cond (a .detail .sixty) (0 ∷ []) []
 
+-- two minutes agree in every field
 unfoldable pub sameMinute : MinuteTime → MinuteTime → Bool
 sameMinute a b =
-    sameTime (a .time) (b .time) && eqb (a .detail .marks) (b .detail .marks) && Bool·beq (a .detail .sixty) (b .detail .sixty)
+    sameTime (a .time) (b .time)
+    && eqb (a .detail .marks) (b .detail .marks)
+    && Bool·beq (a .detail .sixty) (b .detail .sixty)
 
+-- "For a writer: 23, 20; it fills the first places it needs and changes nothing after them." (01, Refusal numbers)
 unfoldable pub writeMinute : MinuteTime → List ℕ → Outcome
 writeMinute a buffer = writeBack readMinute minuteText sameMinute a buffer
 
 -- ---- the number of a run
--- "at a gap the refusal number; or, accepted, 100 + 32 L + 16 (run of 60) + 8 (offset 120) + 4 antenna + 2 change + 1 leap, where
--- L is local minutes from 1970-01-01 00:00" (01, Tape and sheet)
+-- "at a gap the refusal number; or, accepted, 100 + 32 L + 16 (run of 60) + 8 (offset 120) + 4 antenna + 2 change
+-- + 1 leap, where L is local minutes from 1970-01-01 00:00" (01, Tape and sheet)
 abbrev pub outcomeNumber : Answer MinuteTime → ℕ
 outcomeNumber (refused k) = k
 outcomeNumber (accepted a) =

@@ -3,16 +3,27 @@ use Prim.Native.Nat.{ℕ, _≤_, _<_, _^_}
 use mathlib.Core.Path.{_≡_}
 use mathlib.Core.Bool.{true}
 use mathlib.Core.List.{List}
-use lib.ListN.{length}
+use lib.ListN.{length, drop}
+use Rattle.clock_time.specs.Errors.{Answer, checked}
 use Rattle.dcf77.specs.Marks.{allSure, binary, bits}
+use Rattle.dcf77.specs.Minute.{minuteFields, minuteChecks}
+use Rattle.dcf77.specs.declared.MinuteTime.{MinuteTime}
 
--- a run of sure marks, with the numbers that its three groups with a parity, 21..28, 29..35 and 36..58, stand for
-pub record Numbers (m : List ℕ) (n h d : ℕ) : Type 0 where
+-- a run that is long enough, of sure marks
+pub record Sure (m : List ℕ) : Type 0 where
   pub long : 59 ≤ length m
   pub sure : allSure m ≡ true
+
+-- such a run, with the numbers that its three groups with a parity, 21..28, 29..35 and 36..58, stand for
+pub record Numbers (m : List ℕ) (n h d : ℕ) : Type 0 where
+  pub run : Sure m
   pub minute : n ≡ binary 8 21 m
   pub hour : h ≡ binary 7 29 m
   pub date : d ≡ binary 23 36 m
+
+-- what the checks of a run give, without the first ones
+abbrev pub checkedFrom : ℕ → List ℕ → Answer MinuteTime
+checkedFrom n m = checked (drop n (minuteChecks m)) (minuteFields m)
 
 -- a number whose last k bits are these marks
 pub record Spells (k : ℕ) (m : List ℕ) (n : ℕ) : Type 0 where

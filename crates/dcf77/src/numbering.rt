@@ -35,8 +35,10 @@ fn local_minutes(days: u32, hour: u8, minute: u8) -> u32
     1440 * days + 60 * (hour as u32) + minute as u32
 }
 
+// What the length, the offset 120 and the flags add.
 fn flags_number(sixty: bool, summer: bool, antenna: bool, change: bool, leap: bool) -> u32
-    ensures { λ r. ⌜ (r ≤ 31) × (r ≡ 16 * mark sixty + 8 * mark summer + 4 * mark antenna + 2 * mark change + mark leap) ⌝ }
+    ensures { λ r. ⌜ (r ≤ 31)
+        × (r ≡ 16 * mark sixty + 8 * mark summer + 4 * mark antenna + 2 * mark change + mark leap) ⌝ }
 {
     16 * (sixty as u32)
         + 8 * (summer as u32)
@@ -45,7 +47,7 @@ fn flags_number(sixty: bool, summer: bool, antenna: bool, change: bool, leap: bo
         + leap as u32
 }
 
-// 100 and up.
+// The number of a minute that was read.
 pub(crate) fn minute_number(a: MinuteTime) -> u32
     requires { ⌜ knownDate (a .time .year) (a .time .month) (a .time .day) ≡ true ⌝ }
     ensures { λ r. ⌜ r ≡ outcomeNumber (accepted a) ⌝ }

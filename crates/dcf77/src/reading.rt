@@ -1,4 +1,5 @@
-// The checks of a minute and its fields, from the numbers of its three groups of marks with a parity.
+// The checks of a minute and its fields. The numbers `minute`, `hour` and `date` are those that the marks 21 to 28, 29
+// to 35 and 36 to 58 stand for, so that mark 45 of the month, say, is the bit of 512 in `date`.
 use crate::MinuteAnswer;
 use crate::MinuteTime;
 use crate::marks;
@@ -6,16 +7,16 @@ use clock_time::ClockTime;
 use clock_time::Error;
 use clock_time::MinuteDetail;
 ghost use mathlib.Core.Path.{_≡_};
-ghost use mathlib.Core.Bool.{true, cond, not, _&&_};
-ghost use Prim.Native.Nat.{_+_, _*_, _/_, _%_, _≤_};
+ghost use mathlib.Core.Bool.{cond, not, _&&_};
+ghost use Prim.Native.Nat.{_/_, _%_};
 ghost use lib.Dec.{leb, eqb};
-ghost use lib.ListN.{length, drop};
+ghost use lib.ListN.{length};
 ghost use lib.IntN.{pos};
-ghost use Rattle.clock_time.specs.Errors.{checked};
-ghost use Rattle.dcf77.specs.Marks.{long, short, allSure, binary};
-ghost use Rattle.dcf77.specs.Numbers.{Numbers};
-ghost use Rattle.dcf77.specs.Minute.{announced, minuteFields, minuteChecks, minuteAnswer};
+ghost use Rattle.dcf77.specs.Marks.{long, short};
+ghost use Rattle.dcf77.specs.Minute.{announced, minuteFields, minuteAnswer};
+ghost use Rattle.dcf77.specs.Numbers.{Sure, Numbers, checkedFrom};
 
+// The offset of the announced time.
 fn zone_offset(summer: bool) -> i16
     ensures { λ r. ⌜ r ≡ cond summer (pos 120) (pos 60) ⌝ }
 {
@@ -49,6 +50,7 @@ fn announced_time(m: &[u8], minute: u32, hour: u32, date: u32) -> ClockTime
     }
 }
 
+// The announced time, with marks 1 to 14 and the length.
 fn fields(m: &[u8], minute: u32, hour: u32, date: u32) -> MinuteTime
     requires { ⌜ Numbers (now m) minute hour date ⌝ }
     ensures { λ r. ⌜ r ≡ minuteFields (now (m .entry)) ⌝ }
@@ -66,7 +68,7 @@ fn fields(m: &[u8], minute: u32, hour: u32, date: u32) -> MinuteTime
 
 // True where 60 marks lack the leap second's announcement, the short mark 59 or minute 0.
 fn is_leap_fault(m: &[u8], minute: u8) -> bool
-    requires { ⌜ 59 ≤ length (now m) ⌝ }
+    requires { ⌜ Sure (now m) ⌝ }
     ensures { λ r. ⌜ r ≡ (eqb (length (now (m .entry))) 60
         && not (long 19 (now (m .entry)) && short 59 (now (m .entry)) && eqb minute 0)) ⌝ }
 {
@@ -78,8 +80,8 @@ fn is_leap_fault(m: &[u8], minute: u8) -> bool
 
 // The checks of the time: 7, 5, 6, 19.
 fn check_time(m: &[u8], a: MinuteTime) -> MinuteAnswer
-    requires { ⌜ (59 ≤ length (now m)) × (a ≡ minuteFields (now m)) ⌝ }
-    ensures { λ r. ⌜ minuteAnswer r ≡ checked (drop 8 (minuteChecks (now (m .entry)))) (minuteFields (now (m .entry))) ⌝ }
+    requires { ⌜ Sure (now m) × (a ≡ minuteFields (now m)) ⌝ }
+    ensures { λ r. ⌜ minuteAnswer r ≡ checkedFrom 8 (now (m .entry)) ⌝ }
 {
     let t = a.time;
     if !((1 <= t.weekday) & (t.weekday <= 7)) {
@@ -97,6 +99,7 @@ fn check_time(m: &[u8], a: MinuteTime) -> MinuteAnswer
     MinuteAnswer::Read(a)
 }
 
+// True where none of the six digits of four marks is above 9.
 fn digits_fit(minute: u32, hour: u32, date: u32) -> bool
     ensures { λ r. ⌜ r ≡ (leb (minute % 16) 9 && leb (hour % 16) 9 && leb (date % 16) 9 && leb (date / 512 % 16) 9
         && leb (date / 16384 % 16) 9 && leb (date / 262144 % 16) 9) ⌝ }
@@ -112,7 +115,7 @@ fn digits_fit(minute: u32, hour: u32, date: u32) -> bool
 // The checks of the numbers, 15 to 18, and after them those of the time.
 fn check_numbers(m: &[u8], minute: u32, hour: u32, date: u32) -> MinuteAnswer
     requires { ⌜ Numbers (now m) minute hour date ⌝ }
-    ensures { λ r. ⌜ minuteAnswer r ≡ checked (drop 4 (minuteChecks (now (m .entry)))) (minuteFields (now (m .entry))) ⌝ }
+    ensures { λ r. ⌜ minuteAnswer r ≡ checkedFrom 4 (now (m .entry)) ⌝ }
 {
     if marks::is_odd(minute) {
         return MinuteAnswer::Refused(Error::MinuteParity);
@@ -129,20 +132,10 @@ fn check_numbers(m: &[u8], minute: u32, hour: u32, date: u32) -> MinuteAnswer
     check_time(m, fields(m, minute, hour, date))
 }
 
-// The number of the marks 36 to 58.
-fn date_number(m: &[u8]) -> u32
-    requires { ⌜ (59 ≤ length (now m)) × (allSure (now m) ≡ true) ⌝ }
-    ensures { λ r. ⌜ r ≡ binary 23 36 (now (m .entry)) ⌝ }
-{
-    let low = marks::read_eight(m, 36);
-    let middle = marks::read_eight(m, 44);
-    low + 256 * (middle + 256 * (marks::read_eight(m, 51) / 2))
-}
-
 // The checks of the start and of the zone, 13 and 14, and after them those of the numbers.
 pub(crate) fn check_marks(m: &[u8]) -> MinuteAnswer
-    requires { ⌜ (59 ≤ length (now m)) × (allSure (now m) ≡ true) ⌝ }
-    ensures { λ r. ⌜ minuteAnswer r ≡ checked (drop 2 (minuteChecks (now (m .entry)))) (minuteFields (now (m .entry))) ⌝ }
+    requires { ⌜ Sure (now m) ⌝ }
+    ensures { λ r. ⌜ minuteAnswer r ≡ checkedFrom 2 (now (m .entry)) ⌝ }
 {
     if !((m[0] == 0) & (m[20] == 1)) {
         return MinuteAnswer::Refused(Error::StartMark);
@@ -152,5 +145,5 @@ pub(crate) fn check_marks(m: &[u8]) -> MinuteAnswer
     }
     let minute = marks::read_eight(m, 21);
     let hour = marks::read_eight(m, 29) % 128;
-    check_numbers(m, minute, hour, date_number(m))
+    check_numbers(m, minute, hour, marks::read_date(m))
 }

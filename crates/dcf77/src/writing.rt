@@ -1,4 +1,5 @@
-// The marks of a minute, made as the bits of one number.
+// The marks of a minute, made as the bits of one number. Each `spell_` function returns the number whose bits are the
+// marks of its part of the run, mark 0 the lowest.
 use crate::MinuteAnswer;
 use crate::MinuteTime;
 use crate::marks;
@@ -10,8 +11,10 @@ ghost use Prim.Native.Nat.{_/_, _%_};
 ghost use Rattle.clock_time.specs.Writing.{outcome, isAccepted};
 ghost use Rattle.dcf77.specs.Marks.{bits};
 ghost use Rattle.dcf77.specs.Numbers.{Spells};
-ghost use Rattle.dcf77.specs.Minute.{minuteAnswer, mark, withParity, firstMarks, minuteText, sameMinute, writeMinute};
+ghost use Rattle.dcf77.specs.Minute.{minuteAnswer, mark, withParity, firstMarks, minuteText};
+ghost use Rattle.dcf77.specs.Minute.{sameMinute, writeMinute};
 
+// Marks 15 to 20.
 fn spell_flags(antenna: bool, change: bool, summer: bool, leap: bool) -> u64
     ensures { λ r. ⌜ Spells 6 (mark antenna ∷ mark change ∷ mark summer ∷ mark (not summer) ∷ mark leap ∷ 1 ∷ []) r ⌝ }
 {
@@ -19,6 +22,7 @@ fn spell_flags(antenna: bool, change: bool, summer: bool, leap: bool) -> u64
         + 2 * (change as u64 + 2 * (summer as u64 + 2 * (!summer as u64 + 2 * (leap as u64 + 2))))
 }
 
+// Marks 21 to 28, the parity last.
 fn spell_minute(minute: u8) -> u64
     ensures { λ r. ⌜ Spells 8 (withParity (bits 4 (minute % 10) ++ bits 3 (minute / 10))) r ⌝ }
 {
@@ -26,6 +30,7 @@ fn spell_minute(minute: u8) -> u64
     n + 128 * marks::parity(n)
 }
 
+// Marks 29 to 35, the parity last.
 fn spell_hour(hour: u8) -> u64
     ensures { λ r. ⌜ Spells 7 (withParity (bits 4 (hour % 10) ++ bits 2 (hour / 10))) r ⌝ }
 {
@@ -33,15 +38,19 @@ fn spell_hour(hour: u8) -> u64
     n + 64 * marks::parity(n)
 }
 
+// Marks 45 to 57.
 fn spell_month(month: u8, year: u16) -> u64
-    ensures { λ r. ⌜ Spells 13 (bits 4 (month % 10) ++ bits 1 (month / 10) ++ bits 4 (year % 10) ++ bits 4 (year / 10 % 10)) r ⌝ }
+    ensures { λ r. ⌜ Spells 13
+        (bits 4 (month % 10) ++ bits 1 (month / 10) ++ bits 4 (year % 10) ++ bits 4 (year / 10 % 10)) r ⌝ }
 {
     let decade = (year % 10) as u64 + 16 * ((year / 10 % 10) as u64);
     (month % 10) as u64 + 16 * ((month / 10 % 2) as u64 + 2 * decade)
 }
 
+// Marks 36 to 58, the parity last.
 fn spell_date(day: u8, weekday: u8, month: u8, year: u16) -> u64
-    ensures { λ r. ⌜ Spells 23 (withParity (bits 4 (day % 10) ++ bits 2 (day / 10) ++ bits 3 weekday ++ bits 4 (month % 10)
+    ensures { λ r. ⌜ Spells 23
+        (withParity (bits 4 (day % 10) ++ bits 2 (day / 10) ++ bits 3 weekday ++ bits 4 (month % 10)
         ++ bits 1 (month / 10) ++ bits 4 (year % 10) ++ bits 4 (year / 10 % 10))) r ⌝ }
 {
     let rest = (weekday % 8) as u64 + 8 * spell_month(month, year);
@@ -49,6 +58,7 @@ fn spell_date(day: u8, weekday: u8, month: u8, year: u16) -> u64
     n + 4194304 * marks::parity(n)
 }
 
+// Marks 0 to 58.
 fn spell_run(a: MinuteTime) -> u64
     ensures { λ r. ⌜ Spells 59 (firstMarks a) r ⌝ }
 {
@@ -87,6 +97,7 @@ pub(crate) fn line_of(a: MinuteTime) -> [u8; 60]
     put_bits(spell_run(a))
 }
 
+// True where two minutes agree in every field.
 fn same_minute(a: MinuteTime, b: MinuteTime) -> bool
     ensures { λ r. ⌜ r ≡ sameMinute a b ⌝ }
 {
@@ -98,6 +109,7 @@ fn same_minute(a: MinuteTime, b: MinuteTime) -> bool
     same & (detail.marks == more.marks) & (detail.sixty == more.sixty)
 }
 
+// True where what was read is this minute.
 fn is_read_as(answer: MinuteAnswer, a: MinuteTime) -> bool
     ensures { λ r. ⌜ r ≡ isAccepted sameMinute (minuteAnswer answer) a ⌝ }
 {

@@ -3,7 +3,11 @@ pub mod PlacesLaws
 pub mod SignedLaws
 pub mod DigitLaws
 pub mod AlignedLaws
+pub mod AlignedBackLaws
 pub mod OffsetLaws
 pub mod PositionLaws
 pub mod ReadLaws
 pub mod TextLaws
+pub mod BackLaws
+pub mod Theorems
+pub mod Examples

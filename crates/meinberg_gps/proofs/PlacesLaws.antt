@@ -2,7 +2,7 @@
 use Prim.Native.Nat.{ℕ, suc, _+_}
 use native.Mathlib.Nat.{add-zero}
 use native.Mathlib.Omega.{arith}
-use mathlib.Core.Path.{_≡_, refl, sym, ap, _∙_}
+use mathlib.Core.Path.{_≡_, sym, ap, _∙_}
 use mathlib.Core.Bool.{Bool, true, _&&_, and-true, and-assoc}
 use mathlib.Core.List.{List, [], _∷_, _++_}
 use lib.ListN.{length, getD, drop}
@@ -15,7 +15,9 @@ unfolding fitsFrom
 fits-and t i [] s = sym (and-true t)
 fits-and t i (p ∷ l) s =
     let a = allowed p (getD s i 0) in
-    fits-and (t && a) (suc i) l s ∙ and-assoc t a (fitsFrom true (suc i) l s) ∙ ap (λ (u : Bool). t && u) (sym (fits-and a (suc i) l s))
+    fits-and (t && a) (suc i) l s
+    ∙ and-assoc t a (fitsFrom true (suc i) l s)
+    ∙ ap (λ (u : Bool). t && u) (sym (fits-and a (suc i) l s))
 
 fits-append : (a b : List ℕ) (i : ℕ) (s : List ℕ)
     → fitsFrom true i (a ++ b) s ≡ (fitsFrom true i a s && fitsFrom true (i + length a) b s)
@@ -30,12 +32,12 @@ fits-append (p ∷ a) b i s =
     ∙ sym (and-assoc t _ _)
     ∙ ap (λ (u : Bool). u && fitsFrom true (suc i + length a) b s) (sym (fits-and t (suc i) a s)))
 
--- what is left of the layout from a place on
-abbrev from : ℕ → List ℕ
-from i = drop i gpsLayout
-
-part : (i n : ℕ) (s : List ℕ) → fitsFrom true i (run i n gpsLayout ++ from (i + n)) s ≡ (fitsFrom true i (run i n gpsLayout) s && fitsFrom true (i + length (run i n gpsLayout)) (from (i + n)) s)
-part i n s = fits-append (run i n gpsLayout) (from (i + n)) i s
+-- n places of the layout from i on, and then the rest
+part : (i n : ℕ) (s : List ℕ)
+    → fitsFrom true i (run i n gpsLayout ++ drop (i + n) gpsLayout) s
+    ≡ (fitsFrom true i (run i n gpsLayout) s
+    && fitsFrom true (i + length (run i n gpsLayout)) (drop (i + n) gpsLayout) s)
+part i n s = fits-append (run i n gpsLayout) (drop (i + n) gpsLayout) i s
 
 pub fits-parts : (s : List ℕ) → fitsFrom true 0 gpsLayout s
     ≡ (fitsFrom true 0 (run 0 13 gpsLayout) s

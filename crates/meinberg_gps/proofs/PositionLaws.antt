@@ -2,14 +2,15 @@
 use Prim.Native.Nat.{ℕ, _≤_}
 use Prim.Native.Char.{code}
 use mathlib.Core.Path.{_≡_}
-use mathlib.Core.Bool.{Bool, true, false, _&&_}
+use mathlib.Core.Bool.{true, false, _&&_}
 use mathlib.Core.List.{List}
 use Rattle.clock_time.specs.Errors.{accepted, refused}
 use Rattle.clock_time.proofs.Tests.{both}
 use Rattle.layout.specs.Layout.{run}
 use Rattle.meinberg_gps.specs.Aligned.{areDigits, rightAligned, digitsOrBlanks}
-use Rattle.meinberg_gps.specs.Position.{Angle, latitude, longitude, wholePart, decimals, angleDigits, positionDigits}
-use Rattle.meinberg_gps.specs.Position.{hemisphere, angleSize, inRange, positionFault, positionOf, readPosition}
+use Rattle.meinberg_gps.specs.Position.{Angle, latitude, longitude, wholePart, decimals, angleDigits}
+use Rattle.meinberg_gps.specs.Position.{positionDigits, hemisphere, angleSize, inRange, positionFault}
+use Rattle.meinberg_gps.specs.Position.{positionOf, readPosition}
 use Rattle.meinberg_gps.proofs.SignedLaws.{sign-limit}
 use Rattle.meinberg_gps.proofs.AlignedLaws.{digits-plain, aligned-plain}
 

@@ -1,6 +1,6 @@
 -- Laws of reading a GPS string that fits its layout. Assumes nothing.
 use Prim.Native.Nat.{ℕ}
-use mathlib.Core.Path.{_≡_, refl, sym, _∙_}
+use mathlib.Core.Path.{_≡_, refl, _∙_}
 use mathlib.Core.Bool.{Bool, true, false, cond}
 use mathlib.Core.List.{List, [], _∷_}
 use Rattle.clock_time.specs.Errors.{Answer, accepted, refused, Check, checked}
@@ -12,7 +12,8 @@ use Rattle.layout.specs.declared.LayoutCheck.the-variants.{Fits}
 use Rattle.layout.proofs.LayoutLaws.{fits-check}
 use Rattle.layout.proofs.TextLaws.{laterChecks, read-after}
 use Rattle.meinberg_gps.specs.Position.{positionFault, positionOf, readPosition}
-use Rattle.meinberg_gps.specs.Gps.{gpsLayout, offsetFault, leapMismatch, clockOf, gpsFields, gps, readGps}
+use Rattle.meinberg_gps.specs.Gps.{gpsLayout, offsetFault, leapMismatch, clockOf, readClock}
+use Rattle.meinberg_gps.specs.Gps.{gpsFields, gps, readGps}
 use Rattle.meinberg_gps.specs.declared.GpsTime.{GpsTime}
 
 -- a clock time with a position
@@ -25,19 +26,21 @@ checked-placed : (p : Position) (ks : List Check) (t : ClockTime)
 checked-placed p [] t = refl
 checked-placed p (k ∷ ks) t = go (k .fails) (checked-placed p ks t)
   where
-    go : (u : Bool) → placed p (checked ks t) ≡ checked ks (record { time = t; position = p })
-        → placed p (cond u (refused (k .number)) (checked ks t)) ≡ cond u (refused (k .number)) (checked ks (record { time = t; position = p }))
+    after : Answer GpsTime
+    after = checked ks (record { time = t; position = p })
+
+    go : (u : Bool) → placed p (checked ks t) ≡ after
+        → placed p (cond u (refused (k .number)) (checked ks t)) ≡ cond u (refused (k .number)) after
     go true h = refl
     go false h = h
 
 -- what the position read as is the answer, or else the clock time is left to check
 abbrev pub afterPosition : List ℕ → Answer Position → Answer GpsTime
-afterPosition s (accepted p) =
-    checked (clockChecks (clockOf s) (leapMismatch s)) (record { time = clockOf s; position = p })
+afterPosition s (accepted p) = readClock s p
 afterPosition s (refused k) = refused k
 
 pub read-clock : (s : List ℕ) (p : Position) {r : Answer ClockTime}
-    → r ≡ checked (clockChecks (clockOf s) (leapMismatch s)) (clockOf s) → placed p r ≡ afterPosition s (accepted p)
+    → r ≡ checked (clockChecks (clockOf s) (leapMismatch s)) (clockOf s) → placed p r ≡ readClock s p
 read-clock s p h = rw h (checked-placed p (clockChecks (clockOf s) (leapMismatch s)) (clockOf s))
 
 module _ {s : List ℕ} (fit : FitsLayout gpsLayout s) where

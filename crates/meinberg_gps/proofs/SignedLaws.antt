@@ -87,7 +87,8 @@ module _ {z : ℤ} (f : SFits w32 z) where
   pub turned-fits : ltZ z (pos 0) ≡ true → SFits w64 (pos 0 -ℤ z)
   turned-fits h = rw (turned z h) (record { sfits = omega (arith, size-small) })
 
-  pub turned-held : ltZ z (pos 0) ≡ true → toZ w64 (ofZ w64 (pos 0 -ℤ toZ w64 (ofZ w64 (toZ w32 (ofZ w32 z))))) ≡ pos (natAbs z)
+  pub turned-held : ltZ z (pos 0) ≡ true
+      → toZ w64 (ofZ w64 (pos 0 -ℤ toZ w64 (ofZ w64 (toZ w32 (ofZ w32 z))))) ≡ pos (natAbs z)
   turned-held h = rw widened (toZ-ofZ (turned-fits h) ∙ turned z h)
 
   pub kept-held : ltZ z (pos 0) ≡ false → toZ w64 (ofZ w64 (toZ w32 (ofZ w32 z))) ≡ pos (natAbs z)

@@ -6,15 +6,16 @@ use mathlib.Core.List.{List, [], _∷_, _++_}
 use lib.Dec.{leb, eqb}
 use lib.ListN.{getD}
 use lib.IntN.{ℤ, natAbs}
-use Rattle.clock_time.specs.Errors.{Answer, accepted, refused, errorNumber}
+use Rattle.clock_time.specs.Errors.{Answer, accepted, refused, errorNumber, checked}
 use Rattle.clock_time.specs.Same.{sameTime, samePosition}
 use Rattle.clock_time.specs.Writing.{Outcome}
 use Rattle.clock_time.specs.declared.ClockTime.{ClockTime}
+use Rattle.clock_time.specs.declared.Position.{Position}
 use Rattle.calendar.specs.Date.{fullYear}
 use Rattle.decimal.specs.Decimal.{digits}
 use Rattle.layout.specs.Ascii.{ascii}
 use Rattle.layout.specs.Layout.{digit, free, flag, places, number, has}
-use Rattle.layout.specs.Text.{Format, readText, writeText, letter}
+use Rattle.layout.specs.Text.{Format, clockChecks, readText, writeText, letter}
 use Rattle.meinberg_gps.specs.Signed.{signed, signHolds, signByte}
 use Rattle.meinberg_gps.specs.Aligned.{aligned}
 use Rattle.meinberg_gps.specs.Position as place
@@ -23,9 +24,9 @@ use Rattle.meinberg_gps.specs.declared.GpsTime.{GpsTime}
 use Rattle.meinberg_gps.specs.declared.GpsAnswer.{GpsAnswer}
 use Rattle.meinberg_gps.specs.declared.GpsAnswer.the-variants.{Read, Refused}
 
--- "As PZF up to place 22; blank at 23; sign at 24; offset digits at 25, 26, 28, 29 with `:` at 27; `;` 30; blank 31; flags
--- uvxyzab at 32..38; `;` 39; blank 40; latitude 41..48; blank 49; longitude 50..58; blank 59; height 60..63; `m` 64; ETX
--- 65." (01, Meinberg and ELV strings); PZF begins `STX dd.mm.yy; w; hh:mm:ss;`
+-- "As PZF up to place 22; blank at 23; sign at 24; offset digits at 25, 26, 28, 29 with `:` at 27; `;` 30; blank 31;
+-- flags uvxyzab at 32..38; `;` 39; blank 40; latitude 41..48; blank 49; longitude 50..58; blank 59; height 60..63; `m`
+-- 64; ETX 65." PZF begins "`STX dd.mm.yy; w; hh:mm:ss;`". (01, Meinberg and ELV strings)
 unfoldable pub gpsLayout : List ℕ
 gpsLayout =
     ascii "\u{2}" ++ places 2 digit ++ ascii "." ++ places 2 digit ++ ascii "." ++ places 2 digit
@@ -38,17 +39,19 @@ gpsLayout =
     ++ ascii " " ++ places 4 free ++ ascii "m\u{3}"
 
 -- ---- the offset
+-- "sign at 24; offset digits at 25, 26, 28, 29" (01, Meinberg and ELV strings), in minutes
 abbrev pub offsetSize : List ℕ → ℕ
 offsetSize s = 60 * number 2 25 s + number 2 28 s
 
--- "Offset at most 14:00 either way, its minutes at most 59; `-00:00` is refused with 8." (01, Meinberg and ELV strings); so
--- is a byte at 24 that is no sign
+-- "Offset at most 14:00 either way, its minutes at most 59; `-00:00` is refused with 8." (01, Meinberg and ELV strings)
+-- So is a byte at 24 that is no sign.
 unfoldable pub offsetFault : List ℕ → Bool
 offsetFault s = not (leb (number 2 28 s) 59 && signHolds (code "+") (code "-") 840 (getD s 24 0) (offsetSize s))
 
 unfoldable pub offsetOf : List ℕ → ℤ
 offsetOf s = signed (has "-" 24 s) (offsetSize s)
 
+-- the bytes of an offset, from its sign on
 unfoldable pub offsetText : ℤ → List ℕ
 offsetText z = signByte (code "+") (code "-") z ∷ digits 2 (natAbs z / 60) ++ ascii ":" ++ digits 2 (natAbs z % 60)
 
@@ -57,7 +60,8 @@ offsetText z = signByte (code "+") (code "-") z ∷ digits 2 (natAbs z / 60) ++ 
 unfoldable pub leapMismatch : List ℕ → Bool
 leapMismatch s = not (Bool·beq (has "L" 38 s) (eqb (number 2 20 s) 60))
 
--- "u `#`, v `*`, x `S`, y `!`, z `A`, a `R`, or blank", "x is only the summer flag" (01, Meinberg and ELV strings)
+-- "u `#`, v `*`, x `S`, y `!`, z `A`, a `R`, or blank"; "The offset rules; x is only the summer flag." (01, Meinberg
+-- and ELV strings)
 unfoldable pub clockOf : List ℕ → ClockTime
 clockOf s =
     record {
@@ -77,9 +81,14 @@ clockOf s =
       «alternate_antenna» = has "R" 37 s;
     }
 
+-- what is left to check once the offset and the position hold
+abbrev pub readClock : List ℕ → Position → Answer GpsTime
+readClock s p = checked (clockChecks (clockOf s) (leapMismatch s)) (record { time = clockOf s; position = p })
+
 unfoldable pub gpsFields : List ℕ → GpsTime
 gpsFields s = record { time = clockOf s; position = positionOf s }
 
+-- the letters of the flags, `L` where the second is 60
 unfoldable pub flagsText : ClockTime → List ℕ
 flagsText t =
     letter (t .unsynchronised) "#"

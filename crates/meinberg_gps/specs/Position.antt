@@ -16,8 +16,8 @@ use Rattle.meinberg_gps.specs.Aligned.{areDigits, rightAligned, aligned}
 use Rattle.meinberg_gps.specs.declared.position.PositionAnswer.{PositionAnswer}
 use Rattle.meinberg_gps.specs.declared.position.PositionAnswer.the-variants.{Read, Refused}
 
--- one of the two angles: its first place, how many places come before the point, its letters from zero on and below zero,
--- and the most that it may be
+-- one of the two angles: its first place, how many places come before the point, its letters from zero on and below
+-- zero, and the most that it may be
 pub record Angle : Type 0 where
   pub first : ℕ
   pub whole : ℕ
@@ -25,9 +25,8 @@ pub record Angle : Type 0 where
   pub below : Char
   pub limit : ℕ
 
--- "latitude 41..48; blank 49; longitude 50..58"; "four digits after each point at 43 and 53; N or S at 48, E or W at 58.
--- Kept as signed ten-thousandths of a degree, S and W below zero, at most 900,000 and 1,800,000" (01, Meinberg and ELV
--- strings)
+-- "latitude 41..48; blank 49; longitude 50..58"; "four digits after each point at 43 and 53; N or S at 48, E or W at
+-- 58"; "at most 900,000 and 1,800,000" (01, Meinberg and ELV strings)
 abbrev pub latitude : Angle
 latitude = record { first = 41; whole = 2; above = "N"; below = "S"; limit = 900000 }
 
@@ -50,7 +49,8 @@ angleSize a s = value (wholePart a s ++ decimals a s)
 unfoldable pub angleDigits : Angle → List ℕ → Bool
 angleDigits a s = rightAligned (wholePart a s) && areDigits (decimals a s)
 
--- "whole parts, height among them, are right-aligned [..]; four digits after each point" (01, Meinberg and ELV strings)
+-- "whole parts, height among them, are right-aligned with blanks for leading zeros [..]; four digits after each point"
+-- (01, Meinberg and ELV strings)
 unfoldable pub positionDigits : List ℕ → Bool
 positionDigits s = angleDigits latitude s && angleDigits longitude s && rightAligned (run 60 4 s)
 
@@ -62,6 +62,7 @@ inRange a s = signHolds (code (a .above)) (code (a .below)) (a .limit) (hemisphe
 unfoldable pub positionFault : List ℕ → Bool
 positionFault s = not (positionDigits s && inRange latitude s && inRange longitude s)
 
+-- "Kept as signed ten-thousandths of a degree, S and W below zero" (01, Meinberg and ELV strings)
 unfoldable pub angleOf : Angle → List ℕ → ℤ
 angleOf a s = signed (eqb (hemisphere a s) (code (a .below))) (angleSize a s)
 

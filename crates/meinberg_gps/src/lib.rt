@@ -7,22 +7,23 @@ use clock_time::WriteAnswer;
 use layout::LayoutCheck;
 use layout::ReadAnswer;
 ghost use mathlib.Core.Path.{_≡_};
-ghost use Rattle.clock_time.specs.Errors.{checked};
 ghost use lib.ListN.{length};
+ghost use Rattle.clock_time.specs.Writing.{outcome};
 ghost use Rattle.layout.specs.Layout.{FitsLayout};
-ghost use Rattle.clock_time.specs.Writing.{isAccepted, outcome};
-ghost use Rattle.layout.specs.Text.{clockChecks};
-ghost use Rattle.meinberg_gps.specs.Gps.{gpsLayout, leapMismatch, clockOf, readGps, gpsAnswer};
+ghost use Rattle.clock_time.specs.Writing.{isAccepted};
+ghost use Rattle.meinberg_gps.specs.Gps.{gpsLayout, leapMismatch, clockOf, readClock, readGps, gpsAnswer};
 ghost use Rattle.meinberg_gps.specs.Gps.{sameGps, writeGps};
 
 mod digits;
 mod offset;
+mod parts;
 mod places;
 mod position;
 mod signed;
+mod table;
 mod text;
 
-// What a GPS string says.
+// What a GPS string says: a clock time and the clock's position.
 pub struct GpsTime {
     pub time: ClockTime,
     pub position: Position,
@@ -64,9 +65,10 @@ fn mismatch(s: &[u8]) -> bool
     (s[38] == b'L') != (digits::pair_at(s, 20) == 60)
 }
 
+// Reads the clock time of a string whose offset and `position` hold, or the first of 5, 6 and 7 that holds.
 fn read_clock(s: &[u8], position: Position) -> GpsAnswer
     requires { ⌜ (length (now s) ≡ 66) × FitsLayout gpsLayout (now s) ⌝ }
-    ensures { λ r. ⌜ gpsAnswer r ≡ checked (clockChecks (clockOf (now (s .entry))) (leapMismatch (now (s .entry)))) (record { time = clockOf (now (s .entry)); position = position }) ⌝ }
+    ensures { λ r. ⌜ gpsAnswer r ≡ readClock (now (s .entry)) position ⌝ }
 {
     match layout::check_clock(clock(s), mismatch(s)) {
         ReadAnswer::Read(time) => GpsAnswer::Read(GpsTime {
@@ -77,6 +79,7 @@ fn read_clock(s: &[u8], position: Position) -> GpsAnswer
     }
 }
 
+// Reads a string that fits its layout.
 fn read_fitting(s: &[u8]) -> GpsAnswer
     requires { ⌜ (length (now s) ≡ 66) × FitsLayout gpsLayout (now s) ⌝ }
     ensures { λ r. ⌜ gpsAnswer r ≡ readGps (now (s .entry)) ⌝ }
@@ -90,7 +93,8 @@ fn read_fitting(s: &[u8]) -> GpsAnswer
     }
 }
 
-// Reads a Meinberg GPS string: the clock time with the position, or the first of 1, 2, 3, 4, 8, 9, 5, 6 and 7 that holds.
+// Reads a Meinberg GPS string: the clock time and the position, or the first of 1, 2, 3, 4, 8, 9, 5, 6 and 7 that
+// holds.
 pub fn read_gps(s: &[u8]) -> GpsAnswer
     ensures { λ r. ⌜ gpsAnswer r ≡ readGps (now (s .entry)) ⌝ }
 {

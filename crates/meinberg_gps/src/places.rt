@@ -1,86 +1,11 @@
 // Whether a GPS string has the bytes that its layout asks for.
+use crate::table;
 use layout::LayoutCheck;
 ghost use mathlib.Core.Path.{_≡_};
 ghost use mathlib.Core.Bool.{true};
 ghost use lib.ListN.{length};
 ghost use Rattle.layout.specs.Layout.{run, fitsFrom, checkLayout, layoutFault};
 ghost use Rattle.meinberg_gps.specs.Gps.{gpsLayout};
-
-// The layout, as the definition `gpsLayout` has it: a byte, a digit, any byte, or a flag with its letter.
-const D: u32 = 256;
-
-const A: u32 = 257;
-
-const F: u32 = 512;
-
-const GPS: [u32; 66] = [
-    2,
-    D,
-    D,
-    46,
-    D,
-    D,
-    46,
-    D,
-    D,
-    59,
-    32,
-    D,
-    59,
-    32,
-    D,
-    D,
-    58,
-    D,
-    D,
-    58,
-    D,
-    D,
-    59,
-    32,
-    A,
-    D,
-    D,
-    58,
-    D,
-    D,
-    59,
-    32,
-    F + 35,
-    F + 42,
-    F + 83,
-    F + 33,
-    F + 65,
-    F + 82,
-    F + 76,
-    59,
-    32,
-    A,
-    A,
-    46,
-    A,
-    A,
-    A,
-    A,
-    A,
-    32,
-    A,
-    A,
-    A,
-    46,
-    A,
-    A,
-    A,
-    A,
-    A,
-    32,
-    A,
-    A,
-    A,
-    A,
-    109,
-    3,
-];
 
 // Whether each place of a part of the string has a byte that may stand there.
 fn date_fits(s: &[u8]) -> bool
@@ -178,12 +103,6 @@ fn all_fit(s: &[u8]) -> bool
     position_fits(s)
 }
 
-fn first_error(s: &[u8]) -> LayoutCheck
-    ensures { λ r. ⌜ layoutFault r ≡ checkLayout gpsLayout (now (s .entry)) ⌝ }
-{
-    layout::check_layout(&GPS, s)
-}
-
 // The places are gone over once. Only where one offends is the first error looked for.
 pub(crate) fn check(s: &[u8]) -> LayoutCheck
     ensures { λ r. ⌜ layoutFault r ≡ checkLayout gpsLayout (now (s .entry)) ⌝ }
@@ -193,5 +112,5 @@ pub(crate) fn check(s: &[u8]) -> LayoutCheck
             return LayoutCheck::Fits;
         }
     }
-    first_error(s)
+    table::first_error(s)
 }

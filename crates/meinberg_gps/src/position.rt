@@ -51,13 +51,13 @@ fn height(s: &[u8]) -> u16
     digits::four(s[60], s[61], s[62], s[63]) as u16
 }
 
-fn position_from(south: bool, latitude: u32, west: bool, longitude: u32, height: u16) -> Position
-    requires { ⌜ (latitude ≤ 900000) × (longitude ≤ 1800000) ⌝ }
-    ensures { λ r. ⌜ r ≡ record { latitude = signed south latitude; longitude = signed west longitude; height = height } ⌝ }
+fn position_from(south: bool, lat: u32, west: bool, lon: u32, height: u16) -> Position
+    requires { ⌜ (lat ≤ 900000) × (lon ≤ 1800000) ⌝ }
+    ensures { λ r. ⌜ r ≡ record { latitude = signed south lat; longitude = signed west lon; height = height } ⌝ }
 {
     Position {
-        latitude: signed::with_sign(south, latitude) as i32,
-        longitude: signed::with_sign(west, longitude) as i32,
+        latitude: signed::with_sign(south, lat) as i32,
+        longitude: signed::with_sign(west, lon) as i32,
         height: height,
     }
 }

@@ -18,7 +18,7 @@ returns-2 c = simp (c .before .before .if1 .left, ← (c .before .all-sure .ensu
 check-marks-requires : tie.Need-check-marks-requires
 check-marks-requires c κs =
     let sure = sym (c .before .all-sure .ensures) ∙ not-false _ (c .if2 .left) in
-    (long-enough _ (c .before .before .if1 .left), sure)
+    record { long = long-enough _ (c .before .before .if1 .left); sure = sure }
 
 returns-3 : tie.Need-returns-3
 unfolding readMinute minuteChecks

@@ -7,19 +7,23 @@ use Rattle.dcf77.proofs.run_number.Statement.{statement}
 use Rattle.dcf77.proofs.run_number.Tie as tie
 
 minute-number-requires : tie.Need-minute-number-requires
-minute-number-requires c κs = accepted-known _ _ (sym (rw (c .before .a .given .1) at (c .before .before .before .read-minute .ensures)))
+minute-number-requires c κs =
+    let read = c .before .before .before .read-minute .ensures in
+    accepted-known _ _ (sym (rw (c .before .a .given .1) at read))
 
 returns : tie.Need-returns
 unfolding runNumber
 returns c =
     let told = c .before in
-    rw (sym (rw (told .before .a .given .1) at (told .before .before .before .read-minute .ensures))) (c .minute-number .ensures)
+    let read = rw (told .before .a .given .1) at (told .before .before .before .read-minute .ensures) in
+    rw (sym read) (c .minute-number .ensures)
 
 returns-2 : tie.Need-returns-2
 unfolding runNumber
 returns-2 c =
     let told = c .before in
-    rw (sym (rw (told .before .e .given .1) at (told .before .before .before .read-minute .ensures))) (c .error-number .ensures)
+    let read = rw (told .before .e .given .1) at (told .before .before .before .read-minute .ensures) in
+    rw (sym read) (c .error-number .ensures)
 
 pub run-number-spec : {M : Type 1} → statement M
 run-number-spec =

@@ -22,23 +22,33 @@ pair-at-requires-2 c κs = digits-stand (c .before .before .before .pre .1) 2 4 
 
 pair-at-requires-3 : tie.Need-pair-at-requires-3
 unfolding gpsLayout ascii
-pair-at-requires-3 c κs = digits-stand (c .before .before .before .before .pre .1) 2 1 (lit≤ tt) refl
+pair-at-requires-3 c κs =
+    let x = c .before .before .before .before in
+    digits-stand (x .pre .1) 2 1 (lit≤ tt) refl
 
 digit-at-requires : tie.Need-digit-at-requires
 unfolding gpsLayout ascii
-digit-at-requires c κs = digits-stand (c .before .before .before .before .before .pre .1) 1 11 (lit≤ tt) refl
+digit-at-requires c κs =
+    let x = c .before .before .before .before .before in
+    digits-stand (x .pre .1) 1 11 (lit≤ tt) refl
 
 pair-at-requires-4 : tie.Need-pair-at-requires-4
 unfolding gpsLayout ascii
-pair-at-requires-4 c κs = digits-stand (c .before .before .before .before .before .before .pre .1) 2 14 (lit≤ tt) refl
+pair-at-requires-4 c κs =
+    let x = c .before .before .before .before .before .before in
+    digits-stand (x .pre .1) 2 14 (lit≤ tt) refl
 
 pair-at-requires-5 : tie.Need-pair-at-requires-5
 unfolding gpsLayout ascii
-pair-at-requires-5 c κs = digits-stand (c .before .before .before .before .before .before .before .pre .1) 2 17 (lit≤ tt) refl
+pair-at-requires-5 c κs =
+    let x = c .before .before .before .before .before .before .before in
+    digits-stand (x .pre .1) 2 17 (lit≤ tt) refl
 
 pair-at-requires-6 : tie.Need-pair-at-requires-6
 unfolding gpsLayout ascii
-pair-at-requires-6 c κs = digits-stand (c .before .before .before .before .before .before .before .before .pre .1) 2 20 (lit≤ tt) refl
+pair-at-requires-6 c κs =
+    let x = c .before .before .before .before .before .before .before .before in
+    digits-stand (x .pre .1) 2 20 (lit≤ tt) refl
 
 returns : tie.Need-returns
 unfolding clockOf

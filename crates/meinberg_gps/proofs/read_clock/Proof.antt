@@ -10,7 +10,8 @@ returns c =
     let k = c .before .before .before in
     let m = k .before in
     let x = m .before .before .before .args in
-    let e = rw (c .before .time .given .1, m .mismatch .ensures, m .before .clock .ensures) at (k .check-clock .ensures) in
+    let known = c .before .time .given .1 in
+    let e = rw (known, m .mismatch .ensures, m .before .clock .ensures) at (k .check-clock .ensures) in
     read-clock (now (x .s)) (x .position) e
 
 returns-2 : tie.Need-returns-2
@@ -18,7 +19,8 @@ returns-2 c =
     let k = c .before .before .before in
     let m = k .before in
     let x = m .before .before .before .args in
-    let e = rw (c .before .e .given .1, m .mismatch .ensures, m .before .clock .ensures) at (k .check-clock .ensures) in
+    let known = c .before .e .given .1 in
+    let e = rw (known, m .mismatch .ensures, m .before .clock .ensures) at (k .check-clock .ensures) in
     read-clock (now (x .s)) (x .position) e
 
 pub read-clock-spec : {M : Type 1} → statement M

@@ -1,5 +1,5 @@
--- `dcf77::marks::all_sure` meets its contract. The invariant: the marks are all sure if no bit but the lowest is seen so
--- far and the rest are sure. Assumes nothing.
+-- `dcf77::marks::all_sure` meets its contract. The invariant: the marks are all sure if no bit but the lowest is seen
+-- so far and the rest are sure. Assumes nothing.
 use Prim.Native.Nat.{_-_, _≤_}
 use native.Mathlib.Omega.{arith}
 use mathlib.Core.Path.{_≡_, refl, sym, _∙_}

@@ -9,7 +9,9 @@ use Rattle.dcf77.proofs.marks.read_eight.Statement.{statement}
 use Rattle.dcf77.proofs.marks.read_eight.Tie as tie
 
 mul-result : tie.Need-mul-result
-mul-result c = omega (arith, c .read-four2 .ensures, binary-below _ (c .before .before .before .pre .1) 4 (c .before .before .before .args .at + 4))
+mul-result c =
+    let s = c .before .before .before in
+    omega (arith, c .read-four2 .ensures, binary-below _ (s .pre .1) 4 (s .args .at + 4))
 
 add-result : tie.Need-add-result
 add-result c =
@@ -20,7 +22,8 @@ add-result c =
 returns : tie.Need-returns
 returns c =
     let s = c .before .before .before in
-    simp (c .before .read-four .ensures, c .read-four2 .ensures) (sym (binary-split (now (s .args .m)) 4 4 (s .args .at)))
+    simp (c .before .read-four .ensures, c .read-four2 .ensures)
+    (sym (binary-split (now (s .args .m)) 4 4 (s .args .at)))
 
 pub read-eight-spec : {M : Type 1} → statement M
 read-eight-spec =

@@ -12,8 +12,13 @@ small : (c : tie.Start)
     → (boolByte (c .args .sixty) ≤ 1) × (boolByte (c .args .summer) ≤ 1) × (boolByte (c .args .antenna) ≤ 1)
     × (boolByte (c .args .change) ≤ 1) × (boolByte (c .args .leap) ≤ 1)
 small c =
-    let a = c .args in
-    (byte-small (a .sixty), byte-small (a .summer), byte-small (a .antenna), byte-small (a .change), byte-small (a .leap))
+    let a = c .args in (
+      byte-small (a .sixty),
+      byte-small (a .summer),
+      byte-small (a .antenna),
+      byte-small (a .change),
+      byte-small (a .leap),
+    )
 
 mul-result : tie.Need-mul-result
 mul-result c = omega (arith, small c)

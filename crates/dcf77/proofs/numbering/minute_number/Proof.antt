@@ -13,7 +13,9 @@ offset-fits : (c : tie.Start) → SFits w16 (c .args .a .time .«utc_offset»)
 offset-fits c = search sfits-of
 
 local-minutes-requires : tie.Need-local-minutes-requires
-local-minutes-requires c κs = rw (c .days-to .ensures) (days-small _ _ _ (c .before .before .before .before .before .pre))
+local-minutes-requires c κs =
+    let s = c .before .before .before .before .before in
+    rw (c .days-to .ensures) (days-small _ _ _ (s .pre))
 
 mul-result : tie.Need-mul-result
 mul-result c = omega (arith, c .before .local-minutes .ensures .0, c .flags-number .ensures .0)
@@ -27,7 +29,8 @@ add-result-2 c = omega (arith, c .before .local-minutes .ensures .0, c .flags-nu
 returns : tie.Need-returns
 returns c =
     let n = c .before .before in
-    let summer = rw (toZ-ofZ (offset-fits (n .before .before .before .before .before))) at (n .before .is-120 .ensures) in
+    let s = n .before .before .before .before .before in
+    let summer = rw (toZ-ofZ (offset-fits s)) at (n .before .is-120 .ensures) in
     simp (c .before .local-minutes .ensures .1, n .days-to .ensures, c .flags-number .ensures .1, summer) (omega arith)
 
 pub minute-number-spec : {M : Type 1} → statement M

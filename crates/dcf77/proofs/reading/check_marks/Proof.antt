@@ -20,16 +20,17 @@ check-numbers-requires c κs =
     let s = c .before .before .before .before .before .before .before .before .before .before in
     let m = now (s .args .m) in
     record {
-      long = s .pre .0;
-      sure = s .pre .1;
+      run = s .pre;
       minute = c .before .before .read-eight .ensures;
-      hour = rw (c .before .read-eight2 .ensures) (binary-first m (s .pre .1) 7 1 29);
-      date = c .date-number .ensures;
+      hour = rw (c .before .read-eight2 .ensures) (binary-first m (s .pre .sure) 7 1 29);
+      date = c .read-date .ensures;
     }
 
 returns-3 : tie.Need-returns-3
 unfolding minuteChecks
-returns-3 c = simp (c .before .before .before .before .before .before .before .if1 .left, ne-eqb _ _ (c .before .before .before .before .if2 .left)) (c .check-numbers .ensures)
+returns-3 c =
+    let z = c .before .before .before .before in
+    simp (z .before .before .before .if1 .left, ne-eqb _ _ (z .if2 .left)) (c .check-numbers .ensures)
 
 pub check-marks-spec : {M : Type 1} → statement M
 check-marks-spec =

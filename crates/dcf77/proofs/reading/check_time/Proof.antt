@@ -25,10 +25,17 @@ returns-2 c =
 
 returns-3 : tie.Need-returns-3
 returns-3 c =
-    let s = c .before .before .before .before .before .before .before .before .before .before in
-    let time = rw (toZ-ofZ (offset-fits s)) at (c .before .time-exists .ensures) in
+    let t = c .before in
+    let s = t .before .before .before .before .before .before .before .before .before in
+    let time = rw (toZ-ofZ (offset-fits s)) at (t .time-exists .ensures) in
     rw (time-checks (now (s .args .m)) (s .args .a) (s .pre .1))
-    (simp (c .before .before .before .before .before .if1 .left, ← (c .before .before .before .before .date-exists .ensures), c .before .before .before .if2 .left, ← time, c .if3 .taken))
+    (simp (
+      t .before .before .before .before .if1 .left,
+      ← (t .before .before .before .date-exists .ensures),
+      t .before .before .if2 .left,
+      ← time,
+      c .if3 .taken,
+    ))
 
 returns-4 : tie.Need-returns-4
 returns-4 c =

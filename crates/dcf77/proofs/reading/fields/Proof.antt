@@ -8,10 +8,14 @@ use Rattle.dcf77.proofs.reading.fields.Statement.{statement}
 use Rattle.dcf77.proofs.reading.fields.Tie as tie
 
 add-marks : tie.Need-add-marks
-add-marks c = omega (arith, c .before .read-eight .ensures, binary-below _ (c .before .before .before .before .pre .sure) 8 1)
+add-marks c =
+    let s = c .before .before .before .before in
+    omega (arith, c .before .read-eight .ensures, binary-below _ (s .pre .run .sure) 8 1)
 
 cast-t11 : tie.Need-cast-t11
-cast-t11 c = omega (arith, c .before .read-eight .ensures, binary-below _ (c .before .before .before .before .pre .sure) 8 1)
+cast-t11 c =
+    let s = c .before .before .before .before in
+    omega (arith, c .before .read-eight .ensures, binary-below _ (s .pre .run .sure) 8 1)
 
 returns : tie.Need-returns
 unfolding minuteFields
@@ -23,7 +27,7 @@ returns c =
       c .before .before .announced-time .ensures,
       c .before .read-eight .ensures,
       c .read-eight2 .ensures,
-      binary-first m (s .pre .sure) 6 2 9,
+      binary-first m (s .pre .run .sure) 6 2 9,
     ))
 
 pub fields-spec : {M : Type 1} → statement M

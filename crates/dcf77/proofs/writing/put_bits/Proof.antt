@@ -25,7 +25,8 @@ loop-holds c = (omega arith, refl, refl)
 loop-again : tie.Need-loop-again Inv-loop μ-loop
 loop-again c =
     let l = c .before .loop in
-    (omega arith, simp length-set (l .inv .1), bits-more (l .line) (l .rest) (l .i) (omega arith) (l .inv .1) ∙ l .inv .2)
+    let more = bits-more (l .line) (l .rest) (l .i) (omega arith) (l .inv .1) in
+    (omega arith, simp length-set (l .inv .1), more ∙ l .inv .2)
 
 returns : tie.Need-returns Inv-loop μ-loop
 unfolding bits

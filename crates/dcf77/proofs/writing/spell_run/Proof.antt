@@ -12,7 +12,8 @@ returns c =
     let h = c .before in
     let f = h .before .before .before in
     let s = f .before .before .before in
-    let groups = spells-join (h .before .spell-minute .ensures) (spells-join (h .spell-hour .ensures) (h .before .before .spell-date .ensures)) in
+    let date = spells-join (h .spell-hour .ensures) (h .before .before .spell-date .ensures) in
+    let groups = spells-join (h .before .spell-minute .ensures) date in
     spells-short
     (spells-join (spells-last 14 (s .args .a .detail .marks)) (spells-join (f .spell-flags .ensures) groups))
 

@@ -10,7 +10,8 @@ unfolding writeMinute writeBack readsBack
 returns c =
     let w = c .before .before in
     let r = w .before .before in
-    rw (← (w .before .before .before .before .before .before .pre), ← (r .before .read-minute .ensures), ← (r .is-read-as .ensures)) (w .write-bytes .ensures)
+    let run = w .before .before .before .before .before .before .pre in
+    rw (← run, ← (r .before .read-minute .ensures), ← (r .is-read-as .ensures)) (w .write-bytes .ensures)
 
 pub write-run-spec : {M : Type 1} → statement M
 write-run-spec =

@@ -10,7 +10,8 @@ unfolding areDigits rightAligned
 returns c =
     let d = c .before in
     let e = d .before in
-    simp (e .before .three-aligned .ensures, and-true, e .is-digit .ensures, d .is-digit2 .ensures, c .is-digit3 .ensures)
+    let rest = e .before .three-aligned .ensures in
+    simp (rest, and-true, e .is-digit .ensures, d .is-digit2 .ensures, c .is-digit3 .ensures)
 
 pub four-aligned-spec : {M : Type 1} → statement M
 four-aligned-spec =

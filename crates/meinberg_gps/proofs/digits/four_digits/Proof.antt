@@ -9,7 +9,8 @@ returns : tie.Need-returns
 unfolding areDigits
 returns c =
     let d = c .before in
-    simp (and-true, d .before .before .is-digit .ensures, d .before .is-digit2 .ensures, d .is-digit3 .ensures, c .is-digit4 .ensures)
+    let e = d .before in
+    simp (and-true, e .before .is-digit .ensures, e .is-digit2 .ensures, d .is-digit3 .ensures, c .is-digit4 .ensures)
 
 pub four-digits-spec : {M : Type 1} → statement M
 four-digits-spec =

@@ -15,22 +15,23 @@ use Rattle.meinberg_gps.proofs.OffsetLaws.{offset-small}
 use Rattle.meinberg_gps.proofs.offset.read.Statement.{statement}
 use Rattle.meinberg_gps.proofs.offset.read.Tie as tie
 
+held : (c : tie.After-with-sign) → SFits w16 (c .with-sign .result)
+held c =
+    let x = c .before .before .before .before in
+    let size = c .before .size in
+    let h : size .result < 2 ^ 15 = omega (arith, offset-small (x .pre .1), size .ensures) in
+    rw (c .with-sign .ensures) (signed-fits w16 (eqb (getD (now (x .args .s)) 24 0) 45) (size .result) h)
+
 cast-result : tie.Need-cast-result
 cast-result c =
     let f : SFits w64 (c .with-sign .result) = search sfits-of in
-    let small = offset-small (c .before .before .before .before .pre .1) in
-    let h : c .before .size .result < 2 ^ 15 = omega (arith, small, c .before .size .ensures) in
-    let g = signed-fits w16 (eqb (getD (now (c .before .before .before .before .args .s)) 24 0) 45) (c .before .size .result) h in
-    rw (toZ-ofZ f, c .with-sign .ensures) g
+    rw (toZ-ofZ f) (held c)
 
 returns : tie.Need-returns
 unfolding offsetOf
 returns c =
     let f : SFits w64 (c .with-sign .result) = search sfits-of in
-    let small = offset-small (c .before .before .before .before .pre .1) in
-    let h : c .before .size .result < 2 ^ 15 = omega (arith, small, c .before .size .ensures) in
-    let g = signed-fits w16 (eqb (getD (now (c .before .before .before .before .args .s)) 24 0) 45) (c .before .size .result) h in
-    rw (toZ-ofZ f, c .with-sign .ensures, toZ-ofZ g, c .before .size .ensures)
+    rw (toZ-ofZ f, toZ-ofZ (held c), c .with-sign .ensures, c .before .size .ensures)
 
 pub read-spec : {M : Type 1} → statement M
 read-spec =

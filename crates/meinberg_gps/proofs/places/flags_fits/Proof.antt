@@ -1,4 +1,4 @@
--- `meinberg_gps::places::flags_fits` meets its contract: it is the layout's own test, place by place. Assumes nothing.
+-- `meinberg_gps::places::flags_fits` meets its contract: it is the layout's test. Assumes nothing.
 use borrow.Author.Needs.{needs}
 use mathlib.Core.Path.{refl}
 use Rattle.layout.specs.Ascii.{ascii}

@@ -1,4 +1,4 @@
--- `meinberg_gps::places::position_fits` meets its contract: it is the layout's own test, place by place, and at a free place that test is true. Assumes nothing.
+-- `meinberg_gps::places::position_fits` meets its contract: the layout's test, true at a free place. Assumes nothing.
 use borrow.Author.Needs.{needs}
 use mathlib.Core.Bool.{and-true}
 use Rattle.decimal.specs.Decimal.{isDigit}

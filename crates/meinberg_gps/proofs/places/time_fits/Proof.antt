@@ -1,4 +1,4 @@
--- `meinberg_gps::places::time_fits` meets its contract: it is the layout's own test, place by place. Assumes nothing.
+-- `meinberg_gps::places::time_fits` meets its contract: it is the layout's test. Assumes nothing.
 use borrow.Author.Needs.{needs}
 use mathlib.Core.Path.{refl}
 use Rattle.decimal.specs.Decimal.{isDigit}

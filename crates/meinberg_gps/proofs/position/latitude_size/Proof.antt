@@ -33,7 +33,8 @@ add-result c =
     let d = position-digits (now (x .args .s)) (x .pre .1) .latitude-digits in
     let s = now (x .args .s) in
     let small = value-small (wholePart latitude s) (d .whole-plain) in
-    omega (arith, small, value-small (decimals latitude s) (d .after-plain), c .before .before .before .before .before .two .ensures, c .four .ensures)
+    let least = value-small (decimals latitude s) (d .after-plain) in
+    omega (arith, small, least, c .before .before .before .before .before .two .ensures, c .four .ensures)
 
 returns : tie.Need-returns
 unfolding valueFrom

@@ -10,34 +10,39 @@ use Rattle.meinberg_gps.proofs.SignedLaws.{signed-fits}
 use Rattle.meinberg_gps.proofs.position.position_from.Statement.{statement}
 use Rattle.meinberg_gps.proofs.position.position_from.Tie as tie
 
+latitude-held : (c : tie.After-with-sign) → SFits w32 (c .with-sign .result)
+latitude-held c =
+    let x = c .before .args in
+    let h : x .lat < 2 ^ 31 = omega arith in
+    rw (c .with-sign .ensures) (signed-fits w32 (x .south) (x .lat) h)
+
+longitude-held : (c : tie.After-with-sign2) → SFits w32 (c .with-sign2 .result)
+longitude-held c =
+    let x = c .before .before .args in
+    let h : x .lon < 2 ^ 31 = omega arith in
+    rw (c .with-sign2 .ensures) (signed-fits w32 (x .west) (x .lon) h)
+
 cast-t7 : tie.Need-cast-t7
 cast-t7 c =
-    let x = c .before .args in
-    let h : x .latitude < 2 ^ 31 = omega arith in
     let f : SFits w64 (c .with-sign .result) = search sfits-of in
-    rw (toZ-ofZ f, c .with-sign .ensures) (signed-fits w32 (x .south) (x .latitude) h)
+    rw (toZ-ofZ f) (latitude-held c)
 
 cast-t9 : tie.Need-cast-t9
 cast-t9 c =
-    let x = c .before .before .args in
-    let h : x .longitude < 2 ^ 31 = omega arith in
     let f : SFits w64 (c .with-sign2 .result) = search sfits-of in
-    rw (toZ-ofZ f, c .with-sign2 .ensures) (signed-fits w32 (x .west) (x .longitude) h)
+    rw (toZ-ofZ f) (longitude-held c)
 
 returns : tie.Need-returns
 returns c =
-    let x = c .before .before .args in
-    let h : x .latitude < 2 ^ 31 = omega arith in
-    let k : x .longitude < 2 ^ 31 = omega arith in
     let f : SFits w64 (c .before .with-sign .result) = search sfits-of in
     let g : SFits w64 (c .with-sign2 .result) = search sfits-of in
     rw (
       toZ-ofZ f,
+      toZ-ofZ (latitude-held (c .before)),
       c .before .with-sign .ensures,
-      toZ-ofZ (signed-fits w32 (x .south) (x .latitude) h),
       toZ-ofZ g,
+      toZ-ofZ (longitude-held c),
       c .with-sign2 .ensures,
-      toZ-ofZ (signed-fits w32 (x .west) (x .longitude) k),
     )
 
 pub position-from-spec : {M : Type 1} → statement M

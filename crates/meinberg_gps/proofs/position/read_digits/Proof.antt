@@ -43,7 +43,12 @@ returns c =
     let r = c .before .before .before in
     let x = r .before .before .before .before .before .before .before .before .before in
     let y = r .before .before .before .before .before .before in
-    rw (c .position-from .ensures, c .before .height .ensures, y .before .latitude-size .ensures, y .longitude-size .ensures)
+    rw (
+      c .position-from .ensures,
+      c .before .height .ensures,
+      y .before .latitude-size .ensures,
+      y .longitude-size .ensures,
+    )
     (position-in (now (x .args .s)) (x .pre .1) (sym (ranges r) ∙ c .before .before .if1 .taken))
 
 returns-2 : tie.Need-returns-2

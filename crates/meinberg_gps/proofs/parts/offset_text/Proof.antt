@@ -1,4 +1,4 @@
--- `meinberg_gps::text::offset_text` meets its contract. Assumes nothing.
+-- `meinberg_gps::parts::offset_text` meets its contract. Assumes nothing.
 use borrow.Author.Needs.{needs}
 use mir.Syntax.{w32}
 use mir.Facts.{toZ-ofZ, sfits-widen}
@@ -6,8 +6,8 @@ use Rattle.calendar.proofs.SignedLaws.{widened}
 use Rattle.decimal.specs.Decimal.{digits}
 use Rattle.layout.specs.Ascii.{ascii}
 use Rattle.meinberg_gps.specs.Gps.{offsetText}
-use Rattle.meinberg_gps.proofs.text.offset_text.Statement.{statement}
-use Rattle.meinberg_gps.proofs.text.offset_text.Tie as tie
+use Rattle.meinberg_gps.proofs.parts.offset_text.Statement.{statement}
+use Rattle.meinberg_gps.proofs.parts.offset_text.Tie as tie
 
 cast-size : tie.Need-cast-size
 cast-size c = rw (toZ-ofZ (c .fits .offset)) (sfits-widen tt (c .fits .offset))

@@ -1,9 +1,9 @@
--- `meinberg_gps::places::first_error` meets its contract. Assumes nothing.
+-- `meinberg_gps::table::first_error` meets its contract. Assumes nothing.
 use borrow.Author.Needs.{needs}
 use Rattle.layout.specs.Ascii.{ascii}
 use Rattle.meinberg_gps.specs.Gps.{gpsLayout}
-use Rattle.meinberg_gps.proofs.places.first_error.Statement.{statement}
-use Rattle.meinberg_gps.proofs.places.first_error.Tie as tie
+use Rattle.meinberg_gps.proofs.table.first_error.Statement.{statement}
+use Rattle.meinberg_gps.proofs.table.first_error.Tie as tie
 
 returns : tie.Need-returns
 unfolding ascii gpsLayout

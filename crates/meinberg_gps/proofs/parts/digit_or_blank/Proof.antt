@@ -1,9 +1,9 @@
--- `meinberg_gps::text::digit_or_blank` meets its contract. Assumes nothing.
+-- `meinberg_gps::parts::digit_or_blank` meets its contract. Assumes nothing.
 use borrow.Author.Needs.{needs}
 use Rattle.clock_time.proofs.Tests.{tests}
 use Rattle.meinberg_gps.specs.Aligned.{blankOr}
-use Rattle.meinberg_gps.proofs.text.digit_or_blank.Statement.{statement}
-use Rattle.meinberg_gps.proofs.text.digit_or_blank.Tie as tie
+use Rattle.meinberg_gps.proofs.parts.digit_or_blank.Statement.{statement}
+use Rattle.meinberg_gps.proofs.parts.digit_or_blank.Tie as tie
 
 returns : tie.Need-returns
 unfolding blankOr

@@ -1,12 +1,12 @@
--- `meinberg_gps::text::longitude_text` meets its contract. Assumes nothing.
+-- `meinberg_gps::parts::longitude_text` meets its contract. Assumes nothing.
 use borrow.Author.Needs.{needs}
 use mir.Facts.{toZ-ofZ}
 use Rattle.decimal.specs.Decimal.{digits}
 use Rattle.layout.specs.Ascii.{ascii}
 use Rattle.meinberg_gps.specs.Aligned.{padded, aligned}
 use Rattle.meinberg_gps.specs.Position.{angleText}
-use Rattle.meinberg_gps.proofs.text.longitude_text.Statement.{statement}
-use Rattle.meinberg_gps.proofs.text.longitude_text.Tie as tie
+use Rattle.meinberg_gps.proofs.parts.longitude_text.Statement.{statement}
+use Rattle.meinberg_gps.proofs.parts.longitude_text.Tie as tie
 
 returns : tie.Need-returns
 unfolding angleText aligned padded ascii digits

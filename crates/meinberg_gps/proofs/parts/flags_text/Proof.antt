@@ -1,8 +1,8 @@
--- `meinberg_gps::text::flags_text` meets its contract. Assumes nothing.
+-- `meinberg_gps::parts::flags_text` meets its contract. Assumes nothing.
 use borrow.Author.Needs.{needs}
 use Rattle.meinberg_gps.specs.Gps.{flagsText}
-use Rattle.meinberg_gps.proofs.text.flags_text.Statement.{statement}
-use Rattle.meinberg_gps.proofs.text.flags_text.Tie as tie
+use Rattle.meinberg_gps.proofs.parts.flags_text.Statement.{statement}
+use Rattle.meinberg_gps.proofs.parts.flags_text.Tie as tie
 
 returns : tie.Need-returns
 unfolding flagsText

@@ -1,9 +1,9 @@
--- `meinberg_gps::text::decimals` meets its contract. Assumes nothing.
+-- `meinberg_gps::parts::decimals` meets its contract. Assumes nothing.
 use borrow.Author.Needs.{needs}
 use mathlib.Core.Path.{refl}
 use Rattle.decimal.specs.Decimal.{digits}
-use Rattle.meinberg_gps.proofs.text.decimals.Statement.{statement}
-use Rattle.meinberg_gps.proofs.text.decimals.Tie as tie
+use Rattle.meinberg_gps.proofs.parts.decimals.Statement.{statement}
+use Rattle.meinberg_gps.proofs.parts.decimals.Tie as tie
 
 returns : tie.Need-returns
 unfolding digits

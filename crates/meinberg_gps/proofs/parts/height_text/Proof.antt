@@ -1,8 +1,8 @@
--- `meinberg_gps::text::height_text` meets its contract. Assumes nothing.
+-- `meinberg_gps::parts::height_text` meets its contract. Assumes nothing.
 use borrow.Author.Needs.{needs}
 use Rattle.meinberg_gps.specs.Aligned.{padded, aligned}
-use Rattle.meinberg_gps.proofs.text.height_text.Statement.{statement}
-use Rattle.meinberg_gps.proofs.text.height_text.Tie as tie
+use Rattle.meinberg_gps.proofs.parts.height_text.Statement.{statement}
+use Rattle.meinberg_gps.proofs.parts.height_text.Tie as tie
 
 returns : tie.Need-returns
 unfolding aligned padded

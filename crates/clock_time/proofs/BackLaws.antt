@@ -28,7 +28,7 @@ module _
 
     -- what was read is written back, and nothing after it changes
     pub write-read : (s : List ℕ) (a : A) → read s ≡ accepted a → (d : List ℕ) → length s ≤ length d
-        → writeBack read text same a d ≡ record { answer = accepted (length s); buffer = s ++ drop (length s) d }
+        → writeBack read text same a d ≡ record { answer = accepted (length s); memory = s ++ drop (length s) d }
     unfolding writeBack
     write-read s a h d room = rw (reads-back s a h, back s a h) (sym (writing-room s d room))
 

@@ -1,4 +1,5 @@
 -- The definitions that every layer's contracts cite.
 pub mod Errors
+pub mod Exit
 pub mod Same
 pub mod Writing

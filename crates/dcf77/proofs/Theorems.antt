@@ -23,7 +23,7 @@ text-read m a h = let r = read-accepts m a h in rw (r .1) (minute-back m (r .0))
 
 -- "Written back, an accepted reading gives the same bytes" (demand 2)
 pub write-read : (m : List ℕ) (a : MinuteTime) → readMinute m ≡ accepted a → (d : List ℕ) → length m ≤ length d →
-    writeMinute a d ≡ record { answer = accepted (length m); buffer = m ++ drop (length m) d }
+    writeMinute a d ≡ record { answer = accepted (length m); memory = m ++ drop (length m) d }
 unfolding writeMinute
 write-read = writing.write-read readMinute minuteText sameMinute text-read sameMinute-refl sameMinute-true
 

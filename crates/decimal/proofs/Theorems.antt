@@ -15,14 +15,14 @@ use Rattle.decimal.proofs.WriteLaws.{write-unwritable, write-room, writ
 
 -- what is read as n is what n is written as
 pub write-read : (s : List ℕ) (n : ℕ) → readDigits s .answer ≡ accepted n → (d : List ℕ) → length s ≤ length d →
-    writeDigits n (length s) d ≡ record { answer = accepted (length s); buffer = s ++ drop (length s) d }
+    writeDigits n (length s) d ≡ record { answer = accepted (length s); memory = s ++ drop (length s) d }
 write-read s n h d room =
     let r = accepted-reads s h in
     rw (digits-read r) at (sym (write-room n (length s) d (read-writable r) room))
 
 -- what n is written as is read as n
 pub read-write : (n k m : ℕ) (d : List ℕ) → writeDigits n k d .answer ≡ accepted m →
-    readDigits (take m (writeDigits n k d .buffer)) .answer ≡ accepted n
+    readDigits (take m (writeDigits n k d .memory)) .answer ≡ accepted n
 read-write n k m d h =
     let w = written n k d m h in
     rw (w .1, w .2, take-at _ (drop k d) k (length-digits k n)) (read-accepted (reads-digits n k (w .0)))

@@ -36,28 +36,28 @@ module _ (n k : ℕ) where
   writable-test w = simp (le-leb _ _ (w .0), lt-ltb _ _ (w .1))
 
 module _ (n k : ℕ) (d : List ℕ) where
-  pub write-unwritable : (Writable n k → ⊥) → record { answer = refused 23; buffer = d } ≡ writeDigits n k d
+  pub write-unwritable : (Writable n k → ⊥) → record { answer = refused 23; memory = d } ≡ writeDigits n k d
   unfolding writeDigits
   write-unwritable none = go (leb k 19 && ltb n (10 ^ k)) refl
     where
       go : (t : Bool) → (leb k 19 && ltb n (10 ^ k)) ≡ t
-          → record { answer = refused 23; buffer = d } ≡ writeDigits n k d
+          → record { answer = refused 23; memory = d } ≡ writeDigits n k d
       go true e = absurd (none (test-writable n k e))
       go false e = rw e (writing-unreadable (digits k n) d)
 
   pub written : (m : ℕ) → writeDigits n k d .answer ≡ accepted m
-      → Writable n k × (m ≡ k) × (writeDigits n k d .buffer ≡ digits k n ++ drop k d)
+      → Writable n k × (m ≡ k) × (writeDigits n k d .memory ≡ digits k n ++ drop k d)
   unfolding writeDigits
   written m h =
       let a = rw length-digits at (writing-accepted (digits k n) d _ m h) in
       (test-writable n k (a .0), a .1, a .2)
 
   module _ (w : Writable n k) where
-    pub write-no-room : length d < k → record { answer = refused 20; buffer = d } ≡ writeDigits n k d
+    pub write-no-room : length d < k → record { answer = refused 20; memory = d } ≡ writeDigits n k d
     unfolding writeDigits
     write-no-room h = rw (writable-test n k w) (writing-no-room (digits k n) d (rw length-digits h))
 
-    pub write-room : k ≤ length d → record { answer = accepted k; buffer = digits k n ++ drop k d } ≡ writeDigits n k d
+    pub write-room : k ≤ length d → record { answer = accepted k; memory = digits k n ++ drop k d } ≡ writeDigits n k d
     unfolding writeDigits
     write-room h =
         rw (writable-test n k w) (rw length-digits at (writing-room (digits k n) d (rw length-digits h)))

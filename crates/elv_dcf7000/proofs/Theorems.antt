@@ -27,7 +27,7 @@ weekday-read s t h = let r = accepted-exactly s t .0 h in rw (r .1) (read-weekda
 
 -- what was read is written back, byte for byte, and nothing after it changes
 pub write-read : (s : List ℕ) (t : ClockTime) → readElv s ≡ accepted t → (d : List ℕ) → length s ≤ length d →
-    writeElv t d ≡ record { answer = accepted (length s); buffer = s ++ drop (length s) d }
+    writeElv t d ≡ record { answer = accepted (length s); memory = s ++ drop (length s) d }
 unfolding readElv writeElv elv
 write-read = text.write-read elv elv-back sameTime-refl sameTime-true
 

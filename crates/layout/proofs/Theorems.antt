@@ -27,7 +27,7 @@ module _
 
     -- "Written back, an accepted reading gives the same bytes" (demand 2)
     pub write-read : (s : List ℕ) (a : A) → readText f s ≡ accepted a → (d : List ℕ) → length s ≤ length d →
-        writeText f a d ≡ record { answer = accepted (length s); buffer = s ++ drop (length s) d }
+        writeText f a d ≡ record { answer = accepted (length s); memory = s ++ drop (length s) d }
     unfolding writeText
     write-read = writing.write-read (readText f) (f .text) (f .same) text-read same-refl same-true
 

@@ -19,7 +19,7 @@ accepted-exactly s g = text.accepted-exactly gps s g
 
 -- what was read is written back, byte for byte, and nothing after it changes
 pub write-read : (s : List ℕ) (g : GpsTime) → readGps s ≡ accepted g → (d : List ℕ) → length s ≤ length d →
-    writeGps g d ≡ record { answer = accepted (length s); buffer = s ++ drop (length s) d }
+    writeGps g d ≡ record { answer = accepted (length s); memory = s ++ drop (length s) d }
 unfolding readGps writeGps gps
 write-read = text.write-read gps gps-back sameGps-refl sameGps-true
 

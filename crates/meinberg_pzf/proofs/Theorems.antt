@@ -20,7 +20,7 @@ accepted-exactly s t = text.accepted-exactly pzf s t
 
 -- what was read is written back, byte for byte, and nothing after it changes
 pub write-read : (s : List ℕ) (t : ClockTime) → readPzf s ≡ accepted t → (d : List ℕ) → length s ≤ length d →
-    writePzf t d ≡ record { answer = accepted (length s); buffer = s ++ drop (length s) d }
+    writePzf t d ≡ record { answer = accepted (length s); memory = s ++ drop (length s) d }
 unfolding readPzf writePzf pzf
 write-read = text.write-read pzf (λ s r. pzf-back s (r .fits)) sameTime-refl sameTime-true
 

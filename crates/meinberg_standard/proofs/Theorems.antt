@@ -20,7 +20,7 @@ accepted-exactly s t = text.accepted-exactly standard s t
 
 -- what was read is written back, byte for byte, and nothing after it changes
 pub write-read : (s : List ℕ) (t : ClockTime) → readStandard s ≡ accepted t → (d : List ℕ) → length s ≤ length d →
-    writeStandard t d ≡ record { answer = accepted (length s); buffer = s ++ drop (length s) d }
+    writeStandard t d ≡ record { answer = accepted (length s); memory = s ++ drop (length s) d }
 unfolding readStandard writeStandard standard
 write-read = text.write-read standard (λ s r. standard-back s (r .fits)) sameTime-refl sameTime-true
 

@@ -8,6 +8,7 @@ use lib.ListN.{length, getD, set, length-set}
 use lib.Seq.{getD-set-same, getD-set-other}
 use borrow.Author.Tests.{leb-false}
 use Rattle.clock_time.proofs.ErrorLaws.{Passes, accepted-passes}
+use Rattle.clock_time.proofs.ExitLaws.{leaves-accepted}
 use Rattle.dcf77.specs.Minute.{runNumber}
 use Rattle.recording.specs.Outcomes.{differences}
 use Rattle.recording.specs.Rule.{reached}
@@ -18,7 +19,7 @@ use Rattle.recording.specs.Demand.{Corrected}
 use Rattle.recording.proofs.GapLaws.{after-in, after-is-first, first-is-after}
 use Rattle.recording.proofs.OutcomeLaws.{among, length-mended, mended-at, mended-other}
 use Rattle.recording.proofs.RuleLaws.{among-here, among-gap, among-other, reached-set, right-set}
-use Rattle.recording.proofs.RecordingLaws.{leaves-accepted, unfit-false}
+use Rattle.recording.proofs.RecordingLaws.{unfit-false}
 
 module _ (m o : List ℕ) (p v : ℕ) where
   abbrev marked : List ℕ

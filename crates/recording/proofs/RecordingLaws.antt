@@ -9,33 +9,19 @@ use lib.Dec.{eqb, ltb}
 use lib.ListN.{length, getD, set, length-set}
 use borrow.Author.Tests.{lt-ltb, le-ltb, le-leb, lt-leb, eq-eqb, eqb-true, ltb-false}
 use Rattle.clock_time.specs.Errors.{Answer, accepted, refused, errorNumber, given, checked}
+use Rattle.clock_time.specs.Exit.{Exit}
 use Rattle.clock_time.specs.declared.Error.{Error}
 use Rattle.clock_time.proofs.ErrorLaws.{accepted-passes}
+use Rattle.clock_time.proofs.ExitLaws.{leaves-accepted, leaves-refused}
 use Rattle.recording.specs.declared.FillAnswer.{FillAnswer}
 use Rattle.recording.specs.declared.CorrectAnswer.{CorrectAnswer}
 use Rattle.recording.specs.Gaps.{gapAfter}
 use Rattle.recording.specs.Outcomes.{Right, numbers, differ, differences}
 use Rattle.recording.specs.Rule.{reached}
-use Rattle.recording.specs.Recording.{rule, outcomeAt, Exit, leaves, unfit, filling, fillOutcomes}
+use Rattle.recording.specs.Recording.{rule, outcomeAt, unfit, filling, fillOutcomes}
 use Rattle.recording.specs.Recording.{Recorded, recorded, correction, correctionChecks, updated, correctMark}
 use Rattle.recording.proofs.GapLaws.{after-in}
 use Rattle.recording.proofs.OutcomeLaws.{numbers-right, count-one, count-two}
-
--- ---- which way a call went
-module _ {A M : Type 0} (old new x : M) where
-  pub leaves-accepted : (n : A) (a : Answer A) → record { answer = accepted n; memory = x } ≡ leaves old new a
-      → (a ≡ accepted n) × (x ≡ new)
-  leaves-accepted n (accepted k) e =
-      (ap (λ (x : Exit A M). x .answer) (sym e), ap (λ (x : Exit A M). x .memory) e)
-  leaves-accepted n (refused k) e =
-      let a = ap (λ (x : Exit A M). x .answer) e in
-      let z : _≡_ {A = ℕ} 0 1 = cc in absurd (omega arith)
-
-  pub leaves-refused : (j : ℕ) (a : Answer A) → record { answer = refused j; memory = x } ≡ leaves old new a → x ≡ old
-  leaves-refused j (accepted k) e =
-      let a = ap (λ (x : Exit A M). x .answer) e in
-      let z : _≡_ {A = ℕ} 0 1 = cc in absurd (omega arith)
-  leaves-refused j (refused k) e = ap (λ (x : Exit A M). x .memory) e
 
 -- ---- marks and outcomes that fit
 pub unfit-false : (a b : ℕ) → unfit a b ≡ false → (a ≡ b) × (a ≤ 100000)

@@ -5,6 +5,7 @@ use mathlib.Core.List.{List, [], _∷_}
 use lib.Dec.{eqb, leb, ltb}
 use lib.ListN.{length, set}
 use Rattle.clock_time.specs.Errors.{Answer, accepted, refused, errorNumber, Check, given, checked}
+use Rattle.clock_time.specs.Exit.{Exit, exit, leaves}
 use Rattle.dcf77.specs.Minute.{runNumber}
 use Rattle.recording.specs.Outcomes.{numbers, mended, differences}
 use Rattle.recording.specs.Rule.{ruleBy, reached}
@@ -26,17 +27,6 @@ unfoldable pub outcomeAt : List ℕ → ℕ → Answer ℕ
 outcomeAt marks place =
     checked (given 20 (ltb 100000 (length marks)) ∷ given 21 (leb (length marks) place) ∷ []) (rule marks place)
 
--- ---- what a call leaves
--- its answer, with the memory lent to it at exit
-pub record Exit (A M : Type 0) : Type 0 where
-  pub answer : Answer A
-  pub memory : M
-
--- "A refusal [..] changes no byte or number of the memory lent." (demand 1)
-abbrev pub leaves : {A M : Type 0} → M → M → Answer A → Exit A M
-leaves old new (accepted a) = record { answer = accepted a; memory = new }
-leaves old new (refused k) = record { answer = refused k; memory = old }
-
 -- "20 lent memory: sheet and tape lengths differ, tape over 100,000" (01, Refusal numbers)
 abbrev pub unfit : ℕ → ℕ → Bool
 unfit marks outcomes = not (eqb marks outcomes) || ltb 100000 marks
@@ -48,7 +38,7 @@ fillAnswer (FillAnswer.Refused e) = refused (errorNumber e)
 
 -- the answer, with the outcomes at exit
 abbrev pub filling : FillAnswer → List ℕ → Exit (Unit {0}) (List ℕ)
-filling r outcomes = record { answer = fillAnswer r; memory = outcomes }
+filling r outcomes = exit (fillAnswer r) outcomes
 
 -- the right sheet: "the two are equally long and every place holds the number that this rule gives there" (01, Tape and
 -- sheet)
@@ -72,7 +62,7 @@ correctAnswer (CorrectAnswer.Refused e) = refused (errorNumber e)
 
 -- the answer, with the marks and the outcomes at exit
 abbrev pub correction : CorrectAnswer → List ℕ → List ℕ → Exit ℕ Recorded
-correction r marks outcomes = record { answer = correctAnswer r; memory = recorded marks outcomes }
+correction r marks outcomes = exit (correctAnswer r) (recorded marks outcomes)
 
 -- "For a correction: 20, 21, 22." (01, Refusal numbers)
 abbrev pub correctionChecks : List ℕ → List ℕ → ℕ → ℕ → List Check

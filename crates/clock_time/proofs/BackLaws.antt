@@ -1,11 +1,14 @@
--- Writing by reading back, for any format whose text is what was read: both halves of the round trip. Assumes nothing.
+-- Writing by reading back is faithful, for any format whose text is what was read. Assumes nothing.
 use Prim.Native.Nat.{ℕ, _≤_}
+use native.Mathlib.Omega.{arith}
 use mathlib.Core.Path.{_≡_, refl, sym, ap}
 use mathlib.Core.Logic.{_↔_}
 use mathlib.Core.Bool.{Bool, true, false, false≢true}
 use mathlib.Core.List.{List, _++_}
 use lib.ListN.{length, drop}
 use Rattle.clock_time.specs.Errors.{Answer, accepted, refused}
+use Rattle.clock_time.specs.Exit.{exit}
+use Rattle.clock_time.specs.Faithful.{Reads, Faithful}
 use Rattle.clock_time.specs.Writing.{Outcome, writing, isAccepted, readsBack, writeBack}
 use Rattle.clock_time.proofs.WritingLaws.{writing-unreadable, writing-room, writing-not-23}
 
@@ -26,21 +29,41 @@ module _
     unfolding readsBack
     back-reads a h = is-accepted (read (text a)) a h
 
-    -- what was read is written back, and nothing after it changes
-    pub write-read : (s : List ℕ) (a : A) → read s ≡ accepted a → (d : List ℕ) → length s ≤ length d
-        → writeBack read text same a d ≡ record { answer = accepted (length s); memory = s ++ drop (length s) d }
+    write-read : (s : List ℕ) (a : A) → read s ≡ accepted a → (d : List ℕ) → length s ≤ length d
+        → writeBack read text same a d ≡ exit (accepted (length s)) (s ++ drop (length s) d)
     unfolding writeBack
     write-read s a h d room = rw (reads-back s a h, back s a h) (sym (writing-room s d room))
 
-    -- 23 exactly if nothing is read as the value
-    pub write-refused : (a : A) (d : List ℕ)
-        → (writeBack read text same a d .answer ≡ refused 23) ↔ ((s : List ℕ) → read s ≡ accepted a → ⊥)
+    unread-23 : (a : A) (d : List ℕ) → (Reads read a → ⊥) → writeBack read text same a d .answer ≡ refused 23
     unfolding writeBack
-    write-refused a d = (
-      λ e s h. writing-not-23 (text a) d (rw (reads-back s a h) at e),
-      λ none. go (readsBack read text same a) (λ h. none (text a) (back-reads a h)),
-    )
+    unread-23 a d none = go (readsBack read text same a) (λ h. none (text a, back-reads a h))
       where
         go : (t : Bool) → (t ≡ true → ⊥) → writing t (text a) d .answer ≡ refused 23
         go true none = absurd (none refl)
         go false none = sym (ap (λ (o : Outcome). o .answer) (writing-unreadable (text a) d))
+
+    read-not-23 : (a : A) (d : List ℕ) → writeBack read text same a d .answer ≡ refused 23 → Reads read a → ⊥
+    unfolding writeBack
+    read-not-23 a d e r = writing-not-23 (text a) d (rw (reads-back (r .0) a (r .1)) at e)
+
+    room-accepts : (a : A) (d : List ℕ) (k : ℕ) → writeBack read text same a d .answer ≡ refused k
+        → (s : List ℕ) → read s ≡ accepted a → length s ≤ length d → ⊥
+    room-accepts a d k e s h room =
+        let w = ap (λ (o : Outcome). o .answer) (write-read s a h d room) in
+        let z : _≡_ {A = ℕ} 0 1 = cc in omega arith
+
+    -- the format's rules, and what they say of its fields, are those by which it reads
+    pub faithful : (Rules : List ℕ → Type 0) (fields : List ℕ → A)
+        → ((s : List ℕ) (a : A) → (read s ≡ accepted a) ↔ (Rules s × (a ≡ fields s)))
+        → Faithful Rules fields read (writeBack read text same)
+    faithful Rules fields exactly =
+        record {
+          accepted-exactly = exactly;
+          written-back = write-read;
+          refused-exactly =
+              λ a d room. (
+                λ e r. room-accepts a d (e .0) (e .1) (r .0) (r .1) (room (r .0) (r .1)),
+                λ none. (23, unread-23 a d none),
+              );
+          refused-23 = λ a d. (read-not-23 a d, unread-23 a d);
+        }

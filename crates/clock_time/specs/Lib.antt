@@ -3,3 +3,4 @@ pub mod Errors
 pub mod Exit
 pub mod Same
 pub mod Writing
+pub mod Faithful

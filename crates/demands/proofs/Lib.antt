@@ -1,0 +1,3 @@
+-- The main results, and the laws that they cite.
+pub mod OrderLaws
+pub mod Theorems

@@ -1,5 +1,5 @@
 -- Writing by reading back is faithful, for any format whose text is what was read. Assumes nothing.
-use Prim.Native.Nat.{ℕ, _≤_}
+use Prim.Native.Nat.{ℕ, _≤_, _<_}
 use native.Mathlib.Omega.{arith}
 use mathlib.Core.Path.{_≡_, refl, sym, ap}
 use mathlib.Core.Logic.{_↔_}
@@ -10,7 +10,7 @@ use Rattle.clock_time.specs.Errors.{Answer, accepted, refused}
 use Rattle.clock_time.specs.Exit.{exit}
 use Rattle.clock_time.specs.Faithful.{Reads, Faithful}
 use Rattle.clock_time.specs.Writing.{Outcome, writing, isAccepted, readsBack, writeBack}
-use Rattle.clock_time.proofs.WritingLaws.{writing-unreadable, writing-room, writing-not-23}
+use Rattle.clock_time.proofs.WritingLaws.{writing-unreadable, writing-no-room, writing-room, writing-not-23}
 
 module _
     {A : Type 0} (read : List ℕ → Answer A) (text : A → List ℕ) (same : A → A → Bool)
@@ -33,6 +33,11 @@ module _
         → writeBack read text same a d ≡ exit (accepted (length s)) (s ++ drop (length s) d)
     unfolding writeBack
     write-read s a h d room = rw (reads-back s a h, back s a h) (sym (writing-room s d room))
+
+    read-no-room : (s : List ℕ) (a : A) → read s ≡ accepted a → (d : List ℕ) → length d < length s
+        → writeBack read text same a d ≡ exit (refused 20) d
+    unfolding writeBack
+    read-no-room s a h d short = rw (reads-back s a h, back s a h) (sym (writing-no-room s d short))
 
     unread-23 : (a : A) (d : List ℕ) → (Reads read a → ⊥) → writeBack read text same a d .answer ≡ refused 23
     unfolding writeBack
@@ -65,5 +70,6 @@ module _
                 λ e r. room-accepts a d (e .0) (e .1) (r .0) (r .1) (room (r .0) (r .1)),
                 λ none. (23, unread-23 a d none),
               );
+          no-room = read-no-room;
           refused-23 = λ a d. (read-not-23 a d, unread-23 a d);
         }

@@ -1,5 +1,5 @@
 -- Demand 2, of the reader and the writer of a format. Assumes nothing.
-use Prim.Native.Nat.{ℕ, _≤_}
+use Prim.Native.Nat.{ℕ, _≤_, _<_}
 use mathlib.Core.Path.{_≡_}
 use mathlib.Core.Logic.{_↔_}
 use mathlib.Core.List.{List, _++_}
@@ -25,5 +25,8 @@ pub record Faithful
   -- "Given room enough, a writer refuses a reading exactly when nothing acceptable in that format reads as it."
   pub refused-exactly : (a : A) (d : List ℕ) → ((s : List ℕ) → read s ≡ accepted a → length s ≤ length d)
       → ((k : ℕ) × (write a d .answer ≡ refused k)) ↔ (Reads read a → ⊥)
+  -- "20 lent memory: [..] a buffer too short to write to" (01, Refusal numbers)
+  pub no-room : (s : List ℕ) (a : A) → read s ≡ accepted a → (d : List ℕ) → length d < length s
+      → write a d ≡ exit (refused 20) d
   -- "23 reading that no accepted string or minute of this format gives" (01, Refusal numbers), whatever the room
   pub refused-23 : (a : A) (d : List ℕ) → (write a d .answer ≡ refused 23) ↔ (Reads read a → ⊥)

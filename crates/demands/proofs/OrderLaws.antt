@@ -1,51 +1,80 @@
--- Answers in an order, for any checks. Assumes nothing.
+-- Answers in an order, for any lines of the table of refusals. Assumes nothing.
 use Prim.Native.Nat.{ℕ}
 use native.Mathlib.Omega.{arith}
-use mathlib.Core.Path.{_≡_, refl, sym, _∙_}
-use mathlib.Core.Bool.{Bool, true, false, cond}
+use mathlib.Core.Path.{_≡_, refl, sym, ap, _∙_}
+use mathlib.Core.Logic.{_↔_, _⊎_, inl, inr}
+use mathlib.Core.Bool.{Bool, true, false, cond, true≢false}
 use mathlib.Core.List.{List, [], _∷_}
 use Rattle.clock_time.specs.Errors.{Answer, accepted, refused, Check, checked}
 use Rattle.clock_time.specs.Exit.{leaves}
-use Rattle.demands.specs.Ordered.{numbersOf, Ordered, Lent}
+use Rattle.demands.specs.Ordered.{numbersOf, FirstHolds, NoneHolds, Ordered, Lent}
 
--- a list of checks is in the order of its numbers
-pub in-order : {A : Type 0} (ks : List Check) (a : A) → Ordered (numbersOf ks) (checked ks a)
-in-order ks a = record { checks = ks; value = a; numbers = refl; ends = refl }
+-- no answer is accepted and refused
+pub apart : {A : Type 0} {B : Type 0} {a : A} {n : ℕ} → accepted a ≡ refused n → B
+apart e = absurd (let z : _≡_ {A = ℕ} 0 1 = cc in omega arith)
 
+module _ {A : Type 0} (a : A) where
+  refused-first : (cs : List Check) (n : ℕ) → checked cs a ≡ refused n → FirstHolds cs n
+  refused-first [] n h = apart h
+  refused-first (c ∷ cs) n h = go (c .fails) refl h (refused-first cs n)
+    where
+      go : (t : Bool) → c .fails ≡ t → cond t (refused (c .number)) (checked cs a) ≡ refused n
+          → (checked cs a ≡ refused n → FirstHolds cs n) → FirstHolds (c ∷ cs) n
+      go true e h rest = inl (e, cc)
+      go false e h rest = inr (e, rest h)
+
+  first-refused : (cs : List Check) (n : ℕ) → FirstHolds cs n → checked cs a ≡ refused n
+  first-refused [] n h = absurd h
+  first-refused (c ∷ cs) n (inl h) = rw (h .0) (ap refused (h .1))
+  first-refused (c ∷ cs) n (inr h) = rw (h .0) (first-refused cs n (h .1))
+
+  accepted-none : (cs : List Check) (b : A) → checked cs a ≡ accepted b → NoneHolds cs
+  accepted-none [] b h = tt
+  accepted-none (c ∷ cs) b h = go (c .fails) refl h (accepted-none cs b)
+    where
+      go : (t : Bool) → c .fails ≡ t → cond t (refused (c .number)) (checked cs a) ≡ accepted b
+          → (checked cs a ≡ accepted b → NoneHolds cs) → NoneHolds (c ∷ cs)
+      go true e h rest = apart (sym h)
+      go false e h rest = (e, rest h)
+
+  none-accepted : (cs : List Check) → NoneHolds cs → checked cs a ≡ accepted a
+  none-accepted [] h = refl
+  none-accepted (c ∷ cs) h = rw (h .0) (none-accepted cs (h .1))
+
+  -- the answer that lines give is in the order of their numbers
+  pub ordered : (cs : List Check) (answer : Answer A) → answer ≡ checked cs a → Ordered cs (numbersOf cs) answer
+  ordered cs answer e =
+      record {
+        numbers = refl;
+        refused-exactly = λ n. (λ h. refused-first cs n (sym e ∙ h), λ h. e ∙ first-refused cs n h);
+        accepted-exactly = (λ h. accepted-none cs (h .0) (sym e ∙ h .1), λ h. (a, e ∙ none-accepted cs h));
+      }
+
+-- what leaves lent memory as it was where it refuses
 module _ {A M : Type 0} (old new : M) where
   leaves-answer : (a : Answer A) → leaves old new a .answer ≡ a
   leaves-answer (accepted a) = refl
-  leaves-answer (refused k) = refl
+  leaves-answer (refused n) = refl
 
-  leaves-kept : (a : Answer A) (k : ℕ) → leaves old new a .answer ≡ refused k → leaves old new a .memory ≡ old
-  leaves-kept (accepted a) k h = absurd (let z : _≡_ {A = ℕ} 0 1 = cc in omega arith)
-  leaves-kept (refused j) k h = refl
+  leaves-kept : (a : Answer A) (n : ℕ) → leaves old new a .answer ≡ refused n → leaves old new a .memory ≡ old
+  leaves-kept (accepted a) n h = apart h
+  leaves-kept (refused m) n h = refl
 
-  -- what leaves lent memory as it was where it refuses
-  pub lent : (ks : List Check) (a : A) → Lent (numbersOf ks) old (leaves old new (checked ks a))
-  lent ks a =
+  pub lent : (cs : List Check) (a : A) → Lent cs (numbersOf cs) old (leaves old new (checked cs a))
+  lent cs a =
       record {
-        ordered = record { checks = ks; value = a; numbers = refl; ends = leaves-answer (checked ks a) };
-        kept = leaves-kept (checked ks a);
+        ordered = ordered a cs (leaves old new (checked cs a) .answer) (leaves-answer (checked cs a));
+        kept = leaves-kept (checked cs a);
       }
 
--- a change of what is accepted changes no order
+-- what is made of an accepted value changes no line
 module _ {A B : Type 0} (f : Answer A → Answer B) (g : A → B)
-    (on-accepted : (a : A) → f (accepted a) ≡ accepted (g a)) (on-refused : (k : ℕ) → f (refused k) ≡ refused k) where
-  checked-map : (ks : List Check) (a : A) → f (checked ks a) ≡ checked ks (g a)
+    (on-accepted : (a : A) → f (accepted a) ≡ accepted (g a)) (on-refused : (n : ℕ) → f (refused n) ≡ refused n) where
+  pub checked-map : (cs : List Check) (a : A) → f (checked cs a) ≡ checked cs (g a)
   checked-map [] a = on-accepted a
-  checked-map (k ∷ ks) a = go (k .fails) (checked-map ks a)
+  checked-map (c ∷ cs) a = go (c .fails) (checked-map cs a)
     where
-      go : (t : Bool) → f (checked ks a) ≡ checked ks (g a)
-          → f (cond t (refused (k .number)) (checked ks a)) ≡ cond t (refused (k .number)) (checked ks (g a))
-      go true rest = on-refused (k .number)
+      go : (t : Bool) → f (checked cs a) ≡ checked cs (g a)
+          → f (cond t (refused (c .number)) (checked cs a)) ≡ cond t (refused (c .number)) (checked cs (g a))
+      go true rest = on-refused (c .number)
       go false rest = rest
-
-  pub ordered-map : (order : List ℕ) (a : Answer A) → Ordered order a → Ordered order (f a)
-  ordered-map order a o =
-      record {
-        checks = o .checks;
-        value = g (o .value);
-        numbers = o .numbers;
-        ends = rw (o .ends) (checked-map (o .checks) (o .value));
-      }

@@ -1,6 +1,6 @@
 -- The three demands, proved of what the contracts of the public functions say. Assumes nothing.
 use Prim.Native.Nat.{ℕ}
-use mathlib.Core.Path.{_≡_, refl, ap}
+use mathlib.Core.Path.{_≡_, refl, sym}
 use mathlib.Core.Bool.{Bool, true, false, cond, not, _||_}
 use mathlib.Core.List.{List, [], _∷_}
 use mathlib.Core.Option.{Option, none, some}
@@ -10,7 +10,6 @@ use Rattle.clock_time.specs.Errors.{Answer, accepted, refused, given, checked}
 use Rattle.clock_time.specs.Writing.{writing, writeBack}
 use Rattle.calendar.specs.Date.{knownDate, daysSinceEpoch, dayNumber, weekdayNumber, weekdayOf}
 use Rattle.calendar.specs.UnixTime.{isValid, instantOf, unixTime}
-use Rattle.decimal.specs.Decimal.{firstNonDigit, value, Placed, readDigits, writeDigits}
 use Rattle.layout.specs.Layout.{has}
 use Rattle.layout.specs.Text.{Format, clockChecks, textChecks, readText, writeText}
 use Rattle.meinberg_standard.specs.Standard.{standard, readStandard, writeStandard}
@@ -25,82 +24,96 @@ use Rattle.time_string.specs.Kind.{kindOf, plain, located, time, timeAndPositio
 use Rattle.time_string.specs.declared.Kind.{Kind}
 use Rattle.time_string.specs.declared.Kind.the-variants.{Standard, Pzf, Gps, Elv}
 use Rattle.dcf77.specs.Minute.{minuteChecks, minuteFields, readMinute, writeMinute, outcomeNumber, runNumber}
-use Rattle.dcf77.specs.declared.MinuteTime.{MinuteTime}
 use Rattle.dcf77.proofs.Theorems as minutes
 use Rattle.recording.specs.Gaps.{isGap, gapBefore}
-use Rattle.recording.specs.Rule.{runBetween, gapNumber, ruleBy}
+use Rattle.recording.specs.Rule.{gapNumber, ruleBy}
 use Rattle.recording.specs.Outcomes.{numbers, differences}
 use Rattle.recording.specs.Recording.{rule, outcomeAt, unfit, fillOutcomes, recorded, correctionChecks, updated}
 use Rattle.recording.specs.Recording.{correctMark}
 use Rattle.recording.proofs.Theorems as recordings
 use Rattle.demands.specs.Ordered.{Ordered, Lent}
-use Rattle.demands.specs.Demand1.{textOrder, minuteOrder, correctionOrder, writerOrder, Demand1}
+use Rattle.demands.specs.Demand1.{textOrder, minuteOrder, linesAs, writerLines, gapLines, gapMinute, gapAnswer}
+use Rattle.demands.specs.Demand1.{Demand1}
 use Rattle.demands.specs.Demand2.{Demand2}
 use Rattle.demands.specs.Demand3.{Demand3}
-use Rattle.demands.proofs.OrderLaws.{in-order, lent, ordered-map}
+use Rattle.demands.proofs.OrderLaws.{ordered, lent, checked-map}
 
 -- ---- demand 1
-text-order : {A : Type 0} (f : Format A) (s : List ℕ) → Ordered textOrder (readText f s)
+text-order : {A : Type 0} (f : Format A) (s : List ℕ) → Ordered (textChecks f s) textOrder (readText f s)
 unfolding readText textChecks clockChecks
-text-order f s = in-order (textChecks f s) (f .fields s)
+text-order f s = ordered (f .fields s) (textChecks f s) (readText f s) refl
 
-kind-order : (s : List ℕ) → Ordered (1 ∷ []) (kindOf s)
+as-order : {A B : Type 0} (f : Format A) (wrap : Answer A → Answer B) (g : A → B)
+    → ((a : A) → wrap (accepted a) ≡ accepted (g a)) → ((n : ℕ) → wrap (refused n) ≡ refused n)
+    → (s : List ℕ) → Ordered (textChecks f s) textOrder (wrap (readText f s))
+unfolding readText textChecks clockChecks
+as-order f wrap g on-accepted on-refused s =
+    ordered (g (f .fields s)) (textChecks f s) (wrap (readText f s))
+    (checked-map wrap g on-accepted on-refused (textChecks f s) (f .fields s))
+
+by-kind-order : (kind : Kind) (s : List ℕ) → Ordered (linesAs kind s) textOrder (readAs kind s)
+unfolding readAs readStandard readPzf readGps readElv
+by-kind-order Standard s = as-order standard plain time (λ a. refl) (λ n. refl) s
+by-kind-order Pzf s = as-order pzf plain time (λ a. refl) (λ n. refl) s
+by-kind-order Gps s = as-order gps located timeAndPosition (λ a. refl) (λ n. refl) s
+by-kind-order Elv s = as-order elv plain time (λ a. refl) (λ n. refl) s
+
+kind-order : (s : List ℕ) →
+    Ordered (given 1 (not (eqb (length s) 66 || eqb (length s) 32 || eqb (length s) 21)) ∷ []) (1 ∷ []) (kindOf s)
 unfolding kindOf
 kind-order s = go (eqb (length s) 66) (eqb (length s) 32) (eqb (length s) 21)
   where
-    go : (a b c : Bool) → Ordered {A = Kind} (1 ∷ [])
+    go : (a b c : Bool) → Ordered {A = Kind} (given 1 (not (a || b || c)) ∷ []) (1 ∷ [])
         (cond a (accepted Gps) (cond b (accepted (cond (has "D" 1 s) Standard Pzf)) (cond c (accepted Elv) (refused 1))))
-    go true b c = record { checks = given 1 false ∷ []; value = Gps; numbers = refl; ends = refl }
-    go false true c = record { checks = given 1 false ∷ []; value = _; numbers = refl; ends = refl }
-    go false false true = record { checks = given 1 false ∷ []; value = Elv; numbers = refl; ends = refl }
-    go false false false = record { checks = given 1 true ∷ []; value = Elv; numbers = refl; ends = refl }
+    go true b c = ordered Gps (given 1 false ∷ []) _ refl
+    go false true c = ordered (cond (has "D" 1 s) Standard Pzf) (given 1 false ∷ []) _ refl
+    go false false true = ordered Elv (given 1 false ∷ []) _ refl
+    go false false false = ordered Elv (given 1 true ∷ []) _ refl
 
-by-kind-order : (k : Kind) (s : List ℕ) → Ordered textOrder (readAs k s)
-unfolding readAs readStandard readPzf readGps readElv
-by-kind-order Standard s = ordered-map plain time (λ a. refl) (λ k. refl) textOrder _ (text-order standard s)
-by-kind-order Pzf s = ordered-map plain time (λ a. refl) (λ k. refl) textOrder _ (text-order pzf s)
-by-kind-order Gps s = ordered-map located timeAndPosition (λ a. refl) (λ k. refl) textOrder _ (text-order gps s)
-by-kind-order Elv s = ordered-map plain time (λ a. refl) (λ k. refl) textOrder _ (text-order elv s)
-
-minute-order : (m : List ℕ) → Ordered minuteOrder (readMinute m)
+minute-order : (m : List ℕ) → Ordered (minuteChecks m) minuteOrder (readMinute m)
 unfolding readMinute minuteChecks
-minute-order m = in-order (minuteChecks m) (minuteFields m)
+minute-order m = ordered (minuteFields m) (minuteChecks m) (readMinute m) refl
 
-writing-lent : (readable : Bool) (bytes d : List ℕ) → Lent writerOrder d (writing readable bytes d)
+writing-lent : (readable : Bool) (bytes d : List ℕ) →
+    Lent (writerLines readable bytes d) (23 ∷ 20 ∷ []) d (writing readable bytes d)
 unfolding writing
-writing-lent readable bytes d = lent d _ (given 23 (not readable) ∷ given 20 (ltb (length d) (length bytes)) ∷ []) _
+writing-lent readable bytes d = lent d _ (writerLines readable bytes d) (length bytes)
 
-gap-order : (marks : List ℕ) (place : ℕ) → isGap (getD marks place 0) ≡ true
-    → (a : Answer MinuteTime) × Ordered (10 ∷ minuteOrder) a × (rule marks place ≡ outcomeNumber a)
-unfolding ruleBy runNumber readMinute minuteChecks
-gap-order marks place h = go (gapBefore marks place) refl
+gap-order : (marks : List ℕ) (place : ℕ) →
+    Ordered (gapLines marks place (gapBefore marks place)) (10 ∷ minuteOrder) (gapAnswer marks place)
+unfolding minuteChecks
+gap-order marks place = go (gapBefore marks place)
   where
-    go : (o : Option ℕ) → gapBefore marks place ≡ o
-        → (a : Answer MinuteTime) × Ordered (10 ∷ minuteOrder) a × (rule marks place ≡ outcomeNumber a)
-    go none e = (
-      refused 10,
-      record { checks = given 10 true ∷ minuteChecks []; value = minuteFields []; numbers = refl; ends = refl },
-      rw (h, e) refl,
-    )
-    go (some g) e =
-        let m = runBetween marks g place in (
-          readMinute m,
-          record { checks = given 10 false ∷ minuteChecks m; value = minuteFields m; numbers = refl; ends = refl },
-          rw (h, e) refl,
-        )
+    go : (earlier : Option ℕ) → Ordered (gapLines marks place earlier) (10 ∷ minuteOrder)
+        (checked (gapLines marks place earlier) (gapMinute marks place earlier))
+    go none = ordered (gapMinute marks place none) (gapLines marks place none) _ refl
+    go (some g) = ordered (gapMinute marks place (some g)) (gapLines marks place (some g)) _ refl
 
-outcome-order : (marks : List ℕ) (place : ℕ) → Ordered (20 ∷ 21 ∷ []) (outcomeAt marks place)
+gap-number : (marks : List ℕ) (place : ℕ) → isGap (getD marks place 0) ≡ true
+    → rule marks place ≡ outcomeNumber (gapAnswer marks place)
+unfolding ruleBy runNumber readMinute
+gap-number marks place h = rw h (go (gapBefore marks place))
+  where
+    go : (earlier : Option ℕ) → gapNumber runNumber marks place earlier
+        ≡ outcomeNumber (checked (gapLines marks place earlier) (gapMinute marks place earlier))
+    go none = refl
+    go (some g) = refl
+
+outcome-order : (marks : List ℕ) (place : ℕ) →
+    Ordered (given 20 (ltb 100000 (length marks)) ∷ given 21 (leb (length marks) place) ∷ []) (20 ∷ 21 ∷ [])
+    (outcomeAt marks place)
 unfolding outcomeAt
-outcome-order marks place =
-    in-order (given 20 (ltb 100000 (length marks)) ∷ given 21 (leb (length marks) place) ∷ []) (rule marks place)
+outcome-order marks place = ordered (rule marks place) _ (outcomeAt marks place) refl
 
-fill-lent : (marks outcomes : List ℕ) → Lent (20 ∷ []) outcomes (fillOutcomes marks outcomes)
+fill-lent : (marks outcomes : List ℕ) →
+    Lent (given 20 (unfit (length marks) (length outcomes)) ∷ []) (20 ∷ []) outcomes (fillOutcomes marks outcomes)
 unfolding fillOutcomes
 fill-lent marks outcomes =
     lent outcomes (numbers (rule marks) (length marks)) (given 20 (unfit (length marks) (length outcomes)) ∷ []) tt
 
-correct-lent : (marks outcomes : List ℕ) (place mark : ℕ)
-    → Lent correctionOrder (recorded marks outcomes) (correctMark marks outcomes place mark)
+correct-lent : (marks outcomes : List ℕ) (place mark : ℕ) →
+    Lent (correctionChecks marks outcomes place mark) (20 ∷ 21 ∷ 22 ∷ []) (recorded marks outcomes)
+    (correctMark marks outcomes place mark)
 unfolding correctMark
 correct-lent marks outcomes place mark =
     let marks′ = set marks place mark in
@@ -108,50 +121,34 @@ correct-lent marks outcomes place mark =
     lent (recorded marks outcomes) (recorded marks′ outcomes′)
     (correctionChecks marks outcomes place mark) (differences outcomes outcomes′)
 
-abbrev placed : Answer ℕ → ℕ → Placed
-placed a i = record { answer = a; place = i }
-
-digits-order : (s : List ℕ) → Ordered (1 ∷ 3 ∷ []) (readDigits s .answer)
-unfolding readDigits
-digits-order s = go (ltb 19 (length s)) (ltb (firstNonDigit s) (length s))
-  where
-    go : (a b : Bool) → Ordered (1 ∷ 3 ∷ [])
-        (cond a (placed (refused 1) 0) (cond b (placed (refused 3) (firstNonDigit s)) (placed (accepted (value s)) 0))
-        .answer)
-    go true b = record { checks = given 1 true ∷ given 3 b ∷ []; value = 0; numbers = refl; ends = refl }
-    go false true = record { checks = given 1 false ∷ given 3 true ∷ []; value = 0; numbers = refl; ends = refl }
-    go false false =
-        record { checks = given 1 false ∷ given 3 false ∷ []; value = value s; numbers = refl; ends = refl }
-
 pub demand-1 : Demand1
 unfolding
     readStandard readPzf readGps readElv writeStandard writePzf writeGps writeElv writeText writeBack writeMinute
-    unixTime dayNumber weekdayOf writeDigits
+    unixTime dayNumber weekdayOf
 demand-1 =
     record {
-      standard = text-order standard;
-      pzf = text-order pzf;
-      gps = text-order gps;
-      elv = text-order elv;
-      kind = kind-order;
-      by-kind = by-kind-order;
+      read-standard = text-order standard;
+      read-pzf = text-order pzf;
+      read-gps = text-order gps;
+      read-elv = text-order elv;
+      read-by-kind = by-kind-order;
+      tell-kind = kind-order;
       write-standard = λ t d. writing-lent _ _ d;
       write-pzf = λ t d. writing-lent _ _ d;
       write-gps = λ g d. writing-lent _ _ d;
       write-elv = λ t d. writing-lent _ _ d;
-      minute = minute-order;
+      read-minute = minute-order;
       write-minute = λ a d. writing-lent _ _ d;
-      gap = gap-order;
+      gap-order = gap-order;
+      gap-number = gap-number;
       outcome-at = outcome-order;
       fill-outcomes = fill-lent;
       correct-mark = correct-lent;
-      unix-time = λ t. in-order (given 23 (not (isValid t)) ∷ []) (instantOf t);
+      unix-time = λ t. ordered (instantOf t) (given 23 (not (isValid t)) ∷ []) (unixTime t) refl;
       day-number = λ year month day.
-          in-order (given 5 (not (knownDate year month day)) ∷ []) (daysSinceEpoch year month day);
+          ordered (daysSinceEpoch year month day) (given 5 (not (knownDate year month day)) ∷ []) _ refl;
       weekday = λ year month day.
-          in-order (given 5 (not (knownDate year month day)) ∷ []) (weekdayNumber year month day);
-      digits = digits-order;
-      write-digits = λ n k d. writing-lent _ _ d;
+          ordered (weekdayNumber year month day) (given 5 (not (knownDate year month day)) ∷ []) _ refl;
     }
 
 -- ---- demand 2
@@ -167,4 +164,9 @@ demand-2 =
 
 -- ---- demand 3
 pub demand-3 : Demand3
-demand-3 = record { corrected = recordings.demand-3; first-gap = recordings.same-first-gap }
+demand-3 =
+    record {
+      corrected = recordings.demand-3;
+      first-gap = recordings.same-first-gap;
+      not-refused = recordings.correction-accepted;
+    }

@@ -1,26 +1,33 @@
--- Demand 1: for each public entry, its refusals in their order, and that a refusal changes no memory lent. The feed and
--- the leaves that are not named here have no refusal: their answers' types have no case for one. Assumes nothing.
+-- Demand 1: for each public entry, the lines by which it refuses, in their order, and that a refusal changes no memory
+-- lent. The feed has no refusal: its answer has no case for one. Assumes nothing.
 use Prim.Native.Nat.{ℕ}
 use mathlib.Core.Path.{_≡_}
-use mathlib.Core.Bool.{true}
+use mathlib.Core.Bool.{Bool, true, false, not, _||_}
 use mathlib.Core.List.{List, [], _∷_}
-use lib.ListN.{getD}
-use Rattle.clock_time.specs.Errors.{Answer}
+use mathlib.Core.Option.{Option, none, some}
+use lib.Dec.{eqb, leb, ltb}
+use lib.ListN.{length, getD}
+use Rattle.clock_time.specs.Errors.{Answer, Check, given, checked}
+use Rattle.clock_time.specs.Same.{sameTime}
+use Rattle.clock_time.specs.Writing.{readsBack, writing}
 use Rattle.clock_time.specs.declared.ClockTime.{ClockTime}
-use Rattle.calendar.specs.Date.{dayNumber, weekdayOf}
-use Rattle.calendar.specs.UnixTime.{unixTime}
-use Rattle.decimal.specs.Decimal.{readDigits, writeDigits}
-use Rattle.meinberg_standard.specs.Standard.{readStandard, writeStandard}
-use Rattle.meinberg_pzf.specs.Pzf.{readPzf, writePzf}
-use Rattle.meinberg_gps.specs.Gps.{readGps, writeGps}
+use Rattle.calendar.specs.Date.{knownDate, dayNumber, weekdayOf}
+use Rattle.calendar.specs.UnixTime.{isValid, unixTime}
+use Rattle.layout.specs.Text.{Format, textChecks, readText, writeText}
+use Rattle.meinberg_standard.specs.Standard.{standard, readStandard, writeStandard}
+use Rattle.meinberg_pzf.specs.Pzf.{pzf, readPzf, writePzf}
+use Rattle.meinberg_gps.specs.Gps.{gps, readGps, writeGps}
 use Rattle.meinberg_gps.specs.declared.GpsTime.{GpsTime}
-use Rattle.elv_dcf7000.specs.Elv.{readElv, writeElv}
+use Rattle.elv_dcf7000.specs.Elv.{elv, readElv, writeElv}
 use Rattle.time_string.specs.Kind.{kindOf, readAs}
 use Rattle.time_string.specs.declared.Kind.{Kind}
-use Rattle.dcf77.specs.Minute.{readMinute, writeMinute, outcomeNumber}
+use Rattle.time_string.specs.declared.Kind.the-variants.{Standard, Pzf, Gps, Elv}
+use Rattle.dcf77.specs.Minute.{minuteChecks, minuteFields, readMinute, minuteText, sameMinute, writeMinute}
+use Rattle.dcf77.specs.Minute.{outcomeNumber}
 use Rattle.dcf77.specs.declared.MinuteTime.{MinuteTime}
-use Rattle.recording.specs.Gaps.{isGap}
-use Rattle.recording.specs.Recording.{rule, outcomeAt, fillOutcomes, correctMark, recorded}
+use Rattle.recording.specs.Gaps.{isGap, gapBefore}
+use Rattle.recording.specs.Rule.{runBetween}
+use Rattle.recording.specs.Recording.{rule, outcomeAt, unfit, fillOutcomes, correctionChecks, correctMark, recorded}
 use Rattle.demands.specs.Ordered.{Ordered, Lent}
 
 -- "Order for text: 1, 2, 3, 4, 8, 9, 5, 6, 7." (01, Refusal numbers)
@@ -31,41 +38,69 @@ textOrder = 1 ∷ 2 ∷ 3 ∷ 4 ∷ 8 ∷ 9 ∷ 5 ∷ 6 ∷ 7 ∷ []
 abbrev pub minuteOrder : List ℕ
 minuteOrder = 11 ∷ 12 ∷ 13 ∷ 14 ∷ 15 ∷ 16 ∷ 17 ∷ 18 ∷ 7 ∷ 5 ∷ 6 ∷ 19 ∷ []
 
--- "For a correction: 20, 21, 22. For a writer: 23, 20" (01, Refusal numbers)
-abbrev pub correctionOrder : List ℕ
-correctionOrder = 20 ∷ 21 ∷ 22 ∷ []
+-- the lines of a string of each kind
+abbrev pub linesAs : Kind → List ℕ → List Check
+linesAs Standard s = textChecks standard s
+linesAs Pzf s = textChecks pzf s
+linesAs Gps s = textChecks gps s
+linesAs Elv s = textChecks elv s
 
-abbrev pub writerOrder : List ℕ
-writerOrder = 23 ∷ 20 ∷ []
+-- "For a writer: 23, 20" (01, Refusal numbers), where `bytes` are all that could be read as what is to be written;
+-- that line 23 holds exactly if nothing is read as it is a part of demand 2
+abbrev pub writerLines : Bool → List ℕ → List ℕ → List Check
+writerLines readable bytes d = given 23 (not readable) ∷ given 20 (ltb (length d) (length bytes)) ∷ []
+
+abbrev pub textLines : {A : Type 0} → Format A → A → List ℕ → List Check
+textLines f a d = writerLines (readsBack (readText f) (f .text) (f .same) a) (f .text a) d
+
+-- "on a tape 10 comes before these" (01, Refusal numbers): the lines at a gap, by the nearest earlier one
+abbrev pub gapLines : List ℕ → ℕ → Option ℕ → List Check
+gapLines marks place none = given 10 true ∷ minuteChecks []
+gapLines marks place (some earlier) = given 10 false ∷ minuteChecks (runBetween marks earlier place)
+
+abbrev pub gapMinute : List ℕ → ℕ → Option ℕ → MinuteTime
+gapMinute marks place none = minuteFields []
+gapMinute marks place (some earlier) = minuteFields (runBetween marks earlier place)
+
+abbrev pub gapAnswer : List ℕ → ℕ → Answer MinuteTime
+gapAnswer marks place =
+    checked (gapLines marks place (gapBefore marks place)) (gapMinute marks place (gapBefore marks place))
 
 pub record Demand1 : Type 0 where
   -- reading strings, and telling their kind: "any other length is refused with 1" (01, Meinberg and ELV strings)
-  pub standard : (s : List ℕ) → Ordered textOrder (readStandard s)
-  pub pzf : (s : List ℕ) → Ordered textOrder (readPzf s)
-  pub gps : (s : List ℕ) → Ordered textOrder (readGps s)
-  pub elv : (s : List ℕ) → Ordered textOrder (readElv s)
-  pub kind : (s : List ℕ) → Ordered (1 ∷ []) (kindOf s)
-  pub by-kind : (k : Kind) (s : List ℕ) → Ordered textOrder (readAs k s)
+  pub read-standard : (s : List ℕ) → Ordered (linesAs Standard s) textOrder (readStandard s)
+  pub read-pzf : (s : List ℕ) → Ordered (linesAs Pzf s) textOrder (readPzf s)
+  pub read-gps : (s : List ℕ) → Ordered (linesAs Gps s) textOrder (readGps s)
+  pub read-elv : (s : List ℕ) → Ordered (linesAs Elv s) textOrder (readElv s)
+  pub read-by-kind : (kind : Kind) (s : List ℕ) → Ordered (linesAs kind s) textOrder (readAs kind s)
+  pub tell-kind : (s : List ℕ) →
+      Ordered (given 1 (not (eqb (length s) 66 || eqb (length s) 32 || eqb (length s) 21)) ∷ []) (1 ∷ []) (kindOf s)
   -- writing strings
-  pub write-standard : (t : ClockTime) (d : List ℕ) → Lent writerOrder d (writeStandard t d)
-  pub write-pzf : (t : ClockTime) (d : List ℕ) → Lent writerOrder d (writePzf t d)
-  pub write-gps : (g : GpsTime) (d : List ℕ) → Lent writerOrder d (writeGps g d)
-  pub write-elv : (t : ClockTime) (d : List ℕ) → Lent writerOrder d (writeElv t d)
+  pub write-standard : (t : ClockTime) (d : List ℕ) → Lent (textLines standard t d) (23 ∷ 20 ∷ []) d (writeStandard t d)
+  pub write-pzf : (t : ClockTime) (d : List ℕ) → Lent (textLines pzf t d) (23 ∷ 20 ∷ []) d (writePzf t d)
+  pub write-gps : (g : GpsTime) (d : List ℕ) → Lent (textLines gps g d) (23 ∷ 20 ∷ []) d (writeGps g d)
+  pub write-elv : (t : ClockTime) (d : List ℕ) → Lent (textLines elv t d) (23 ∷ 20 ∷ []) d (writeElv t d)
   -- a DCF77 minute
-  pub minute : (m : List ℕ) → Ordered minuteOrder (readMinute m)
-  pub write-minute : (a : MinuteTime) (d : List ℕ) → Lent writerOrder d (writeMinute a d)
-  -- "on a tape 10 comes before these" (01, Refusal numbers): the number at a gap
-  pub gap : (marks : List ℕ) (place : ℕ) → isGap (getD marks place 0) ≡ true
-      → (a : Answer MinuteTime) × Ordered (10 ∷ minuteOrder) a × (rule marks place ≡ outcomeNumber a)
+  pub read-minute : (m : List ℕ) → Ordered (minuteChecks m) minuteOrder (readMinute m)
+  pub write-minute : (a : MinuteTime) (d : List ℕ) →
+      Lent (writerLines (readsBack readMinute minuteText sameMinute a) (minuteText a) d) (23 ∷ 20 ∷ []) d (writeMinute a d)
+  -- the number at a gap of a recording
+  pub gap-order : (marks : List ℕ) (place : ℕ) →
+      Ordered (gapLines marks place (gapBefore marks place)) (10 ∷ minuteOrder) (gapAnswer marks place)
+  pub gap-number : (marks : List ℕ) (place : ℕ) → isGap (getD marks place 0) ≡ true
+      → rule marks place ≡ outcomeNumber (gapAnswer marks place)
   -- a recording, its outcomes, and the correction of a mark
-  pub outcome-at : (marks : List ℕ) (place : ℕ) → Ordered (20 ∷ 21 ∷ []) (outcomeAt marks place)
-  pub fill-outcomes : (marks outcomes : List ℕ) → Lent (20 ∷ []) outcomes (fillOutcomes marks outcomes)
-  pub correct-mark : (marks outcomes : List ℕ) (place mark : ℕ)
-      → Lent correctionOrder (recorded marks outcomes) (correctMark marks outcomes place mark)
+  pub outcome-at : (marks : List ℕ) (place : ℕ) →
+      Ordered (given 20 (ltb 100000 (length marks)) ∷ given 21 (leb (length marks) place) ∷ []) (20 ∷ 21 ∷ [])
+      (outcomeAt marks place)
+  pub fill-outcomes : (marks outcomes : List ℕ) →
+      Lent (given 20 (unfit (length marks) (length outcomes)) ∷ []) (20 ∷ []) outcomes (fillOutcomes marks outcomes)
+  pub correct-mark : (marks outcomes : List ℕ) (place mark : ℕ) →
+      Lent (correctionChecks marks outcomes place mark) (20 ∷ 21 ∷ 22 ∷ []) (recorded marks outcomes)
+      (correctMark marks outcomes place mark)
   -- "Refused with 23 where the fields are no valid reading" (01, The reading); "5 no such date" (01, Refusal numbers)
-  pub unix-time : (t : ClockTime) → Ordered (23 ∷ []) (unixTime t)
-  pub day-number : (year month day : ℕ) → Ordered (5 ∷ []) (dayNumber year month day)
-  pub weekday : (year month day : ℕ) → Ordered (5 ∷ []) (weekdayOf year month day)
-  -- runs of digits
-  pub digits : (s : List ℕ) → Ordered (1 ∷ 3 ∷ []) (readDigits s .answer)
-  pub write-digits : (n k : ℕ) (d : List ℕ) → Lent writerOrder d (writeDigits n k d)
+  pub unix-time : (t : ClockTime) → Ordered (given 23 (not (isValid t)) ∷ []) (23 ∷ []) (unixTime t)
+  pub day-number : (year month day : ℕ) →
+      Ordered (given 5 (not (knownDate year month day)) ∷ []) (5 ∷ []) (dayNumber year month day)
+  pub weekday : (year month day : ℕ) →
+      Ordered (given 5 (not (knownDate year month day)) ∷ []) (5 ∷ []) (weekdayOf year month day)

@@ -1,24 +1,35 @@
 -- What it means that an entry refuses in an order, and keeps what it was lent. Assumes nothing.
 use Prim.Native.Nat.{ℕ}
 use mathlib.Core.Path.{_≡_}
+use mathlib.Core.Logic.{_↔_, _⊎_}
+use mathlib.Core.Bool.{true, false}
 use mathlib.Core.List.{List, [], _∷_}
-use Rattle.clock_time.specs.Errors.{Answer, refused, Check, checked}
+use Rattle.clock_time.specs.Errors.{Answer, accepted, refused, Check}
 use Rattle.clock_time.specs.Exit.{Exit}
 
--- the numbers of checks, in their order
+-- the numbers of lines of the table of refusals, in their order
 abbrev pub numbersOf : List Check → List ℕ
 numbersOf [] = []
-numbersOf (k ∷ ks) = k .number ∷ numbersOf ks
+numbersOf (c ∷ cs) = c .number ∷ numbersOf cs
 
--- "each public entry ends with its answer or with one numbered refusal, in the order document 01 gives" (demand 1): the
--- answer is that of checks with these numbers in this order, so the first that holds is given, and no other number is
-pub record Ordered {A : Type 0} (order : List ℕ) (answer : Answer A) : Type 0 where
-  pub checks : List Check
-  pub value : A
-  pub numbers : numbersOf checks ≡ order
-  pub ends : answer ≡ checked checks value
+-- a line with the number n holds, and no earlier one does
+abbrev pub FirstHolds : List Check → ℕ → Type 0
+FirstHolds [] n = ⊥
+FirstHolds (c ∷ cs) n = ((c .fails ≡ true) × (c .number ≡ n)) ⊎ ((c .fails ≡ false) × FirstHolds cs n)
+
+-- no line holds
+abbrev pub NoneHolds : List Check → Type 0
+NoneHolds [] = Unit {0}
+NoneHolds (c ∷ cs) = (c .fails ≡ false) × NoneHolds cs
+
+-- "each public entry ends with its answer or with one numbered refusal, in the order document 01 gives" (demand 1)
+pub record Ordered {A : Type 0} (lines : List Check) (order : List ℕ) (answer : Answer A) : Type 0 where
+  pub numbers : numbersOf lines ≡ order
+  -- "Each number is given when its line holds and no earlier one does, and never otherwise." (01, Refusal numbers)
+  pub refused-exactly : (n : ℕ) → (answer ≡ refused n) ↔ FirstHolds lines n
+  pub accepted-exactly : ((a : A) × (answer ≡ accepted a)) ↔ NoneHolds lines
 
 -- "A refusal hands back its number and nothing else, and changes no byte or number of the memory lent." (demand 1)
-pub record Lent {A M : Type 0} (order : List ℕ) (old : M) (e : Exit A M) : Type 0 where
-  pub ordered : Ordered order (e .answer)
-  pub kept : (k : ℕ) → e .answer ≡ refused k → e .memory ≡ old
+pub record Lent {A M : Type 0} (lines : List Check) (order : List ℕ) (old : M) (e : Exit A M) : Type 0 where
+  pub ordered : Ordered lines order (e .answer)
+  pub kept : (n : ℕ) → e .answer ≡ refused n → e .memory ≡ old

@@ -61,12 +61,12 @@ first-within (b ∷ s) = go (isDigit b) (first-within s)
     go false h = omega arith
 
 -- ---- the number of a run of digits
-valueFrom-append : (n : ℕ) (s t : List ℕ) → valueFrom n (s ++ t) ≡ valueFrom (valueFrom n s) t
+pub valueFrom-append : (n : ℕ) (s t : List ℕ) → valueFrom n (s ++ t) ≡ valueFrom (valueFrom n s) t
 unfolding valueFrom
 valueFrom-append n [] t = refl
 valueFrom-append n (b ∷ s) t = valueFrom-append (10 * n + (b - 48)) s t
 
-valueFrom-below : (n : ℕ) (s : List ℕ) → firstNonDigit s ≡ length s → valueFrom n s < (n + 1) * 10 ^ length s
+pub valueFrom-below : (n : ℕ) (s : List ℕ) → firstNonDigit s ≡ length s → valueFrom n s < (n + 1) * 10 ^ length s
 unfolding valueFrom
 valueFrom-below n [] h = omega arith
 valueFrom-below n (b ∷ s) h =

@@ -16,7 +16,7 @@ pub enum DigitsRead {
 }
 
 // Whether a byte is one of `0` to `9`.
-fn is_digit(b: u8) -> bool
+pub fn is_digit(b: u8) -> bool
     ensures { λ r. ⌜ r ≡ isDigit b ⌝ }
 {
     (48 <= b) & (b <= 57)

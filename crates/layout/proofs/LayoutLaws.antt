@@ -15,9 +15,7 @@ use borrow.Author.Tests.{eq-eqb, ne-eqb, eqb-true, eqb-false, lt-ltb, le-ltb, lt
 use Rattle.clock_time.proofs.Tests.{both}
 use Rattle.decimal.specs.Decimal.{isDigit, firstNonDigit}
 use Rattle.decimal.proofs.DecimalLaws.{value-below}
-use Rattle.layout.specs.Layout.{digit, allowed, errorAt, offence, fitsFrom, first, found, Fault, fault}
-use Rattle.layout.specs.Layout.{checkLayout}
-use Rattle.layout.specs.Layout.{FitsLayout, run, number}
+use Rattle.layout.specs.Layout.{digit, allowed, errorAt, offence, fitsFrom, first, found, FitsLayout, run, number}
 
 -- ---- one place after the other
 module _ (l s : List ℕ) (i : ℕ) (hl : i < length l) (hs : i < length s) where
@@ -120,20 +118,17 @@ from-true t i (p ∷ l) s h =
     at a f zero j = rw add-zero a
     at a f (suc k) j = let e : i + suc k ≡ suc i + k = omega arith in rw e (f k (omega arith))
 
--- a place that offends settles the test
-fits-false : (t : Bool) (i : ℕ) (l s : List ℕ) → t ≡ false → fitsFrom t i l s ≡ false
+all-true : (i : ℕ) (l s : List ℕ) → ((k : ℕ) → k < length l → allowed (getD l k 0) (getD s (i + k) 0) ≡ true)
+    → fitsFrom true i l s ≡ true
 unfolding fitsFrom
-fits-false t i [] s h = h
-fits-false t i (p ∷ l) s h = fits-false (t && allowed p (getD s i 0)) (suc i) l s (rw h refl)
-
-fits-prefix : (n : ℕ) (t : Bool) (i : ℕ) (l s : List ℕ) → fitsFrom t i (take n l) s ≡ false → fitsFrom t i l s ≡ false
-unfolding fitsFrom
-fits-prefix zero t i l s h = fits-false t i l s h
-fits-prefix (suc n) t i [] s h = h
-fits-prefix (suc n) t i (p ∷ l) s h = fits-prefix n (t && allowed p (getD s i 0)) (suc i) l s h
-
-pub fits-stops : (n : ℕ) (l s : List ℕ) → not (fitsFrom true 0 (take n l) s) ≡ true → fitsFrom true 0 l s ≡ false
-fits-stops n l s h = fits-prefix n true 0 l s (not-true _ h)
+all-true i [] s f = refl
+all-true i (p ∷ l) s f =
+    let here : allowed p (getD s i 0) ≡ true = rw add-zero at (f 0 (omega arith)) in
+    rw here (all-true (suc i) l s (λ k j. next k (f (suc k) (omega arith))))
+  where
+    next : (k : ℕ) → allowed (getD l k 0) (getD s (i + suc k) 0) ≡ true
+        → allowed (getD l k 0) (getD s (suc i + k) 0) ≡ true
+    next k a = let e : i + suc k ≡ suc i + k = omega arith in rw e at a
 
 pub tested-fits : (l s : List ℕ) → length l ≡ length s → fitsFrom true 0 l s ≡ true → FitsLayout l s
 tested-fits l s e h =
@@ -142,48 +137,9 @@ tested-fits l s e h =
       at = λ i j. rw zero-add at (from-true true 0 l s h .1 i j);
     }
 
--- ---- the five outcomes of the check
-pub fault-length : (l s : List ℕ) → (length l ≡ length s → ⊥) → checkLayout l s ≡ fault 1 0
-unfolding checkLayout
-fault-length l s d = simp (ne-eqb (length l) (length s) d)
-
-module _ (l s : List ℕ) (e : length l ≡ length s) where
-  pub fault-fixed : found 2 l s ≡ true → checkLayout l s ≡ fault 2 (first 2 l s)
-  unfolding checkLayout
-  fault-fixed f = simp (eq-eqb (length l) (length s) e, f)
-
-  pub fault-digit : found 2 l s ≡ false → found 3 l s ≡ true → checkLayout l s ≡ fault 3 (first 3 l s)
-  unfolding checkLayout
-  fault-digit f g = simp (eq-eqb (length l) (length s) e, f, g)
-
-  pub fault-flag : found 2 l s ≡ false → found 3 l s ≡ false → found 4 l s ≡ true
-      → checkLayout l s ≡ fault 4 (first 4 l s)
-  unfolding checkLayout
-  fault-flag f g h = simp (eq-eqb (length l) (length s) e, f, g, h)
-
-  pub fault-none : found 2 l s ≡ false → found 3 l s ≡ false → found 4 l s ≡ false → checkLayout l s ≡ fault 0 0
-  unfolding checkLayout
-  fault-none f g h = simp (eq-eqb (length l) (length s) e, f, g, h)
-
--- where the check finds nothing, the string fits
-pub check-fits : (l s : List ℕ) → fault 0 0 ≡ checkLayout l s → FitsLayout l s
-unfolding checkLayout
-check-fits l s h = go (eqb (length l) (length s)) (found 2 l s) (found 3 l s) (found 4 l s) refl refl refl refl h
-  where
-    go : (a b c d : Bool) → eqb (length l) (length s) ≡ a → found 2 l s ≡ b → found 3 l s ≡ c → found 4 l s ≡ d
-        → fault 0 0 ≡ cond a (cond b (fault 2 (first 2 l s)) (cond c (fault 3 (first 3 l s)) (cond d (fault 4 (first 4
-        l s)) (fault 0 0)))) (fault 1 0)
-        → FitsLayout l s
-    go false b c d e f g i h = absurd (omega (arith, ap (λ (x : Fault). x .number) h))
-    go true true c d e f g i h = absurd (omega (arith, ap (λ (x : Fault). x .number) h))
-    go true false true d e f g i h = absurd (omega (arith, ap (λ (x : Fault). x .number) h))
-    go true false false true e f g i h = absurd (omega (arith, ap (λ (x : Fault). x .number) h))
-    go true false false false e f g i h =
-        none-found l s (eqb-true _ _ e) f g i
-
-pub fits-check : {l s : List ℕ} → FitsLayout l s → fault 0 0 ≡ checkLayout l s
-fits-check {l} {s} f =
-    sym (fault-none l s (f .long) (fits-found 2 (lit< tt) f) (fits-found 3 (lit< tt) f) (fits-found 4 (lit< tt) f))
+-- a string of which the test is false does not fit
+pub unfit : {l s : List ℕ} → fitsFrom true 0 l s ≡ false → FitsLayout l s → ⊥
+unfit {l} {s} e h = true≢false (sym (all-true 0 l s (λ k j. rw zero-add (h .at k j))) ∙ e)
 
 -- ---- digit places
 -- each of the places is a digit's
@@ -192,15 +148,18 @@ allDigits [] = true
 allDigits (p ∷ l) = eqb p digit && allDigits l
 
 module _ {l s : List ℕ} (h : FitsLayout l s) where
+  pub digit-place : (at : ℕ) → at < length l → eqb (getD l at 0) digit ≡ true → isDigit (getD s at 0) ≡ true
+  unfolding allowed
+  digit-place at room d = rw (eqb-true (getD l at 0) digit d) at (h .at at room)
+
   -- digits stand at digit places
   pub run-digits : (n at : ℕ) → at + n ≤ length l → allDigits (run at n l) ≡ true
       → firstNonDigit (run at n s) ≡ length (run at n s)
-  unfolding firstNonDigit allowed
+  unfolding firstNonDigit
   run-digits zero at room d = refl
   run-digits (suc n) at room d =
       let w = both (eqb (getD l at 0) digit) (allDigits (run (suc at) n l)) d in
-      let byte = rw (eqb-true (getD l at 0) digit (w .0)) at (h .at at (omega arith)) in
-      rw byte (ap suc (run-digits n (suc at) (omega arith) (w .1)))
+      rw (digit-place at (omega arith) (w .0)) (ap suc (run-digits n (suc at) (omega arith) (w .1)))
 
   pub length-run : (n at : ℕ) → length (run at n s) ≡ n
   length-run zero at = refl
@@ -209,6 +168,3 @@ module _ {l s : List ℕ} (h : FitsLayout l s) where
   pub number-below : (n at : ℕ) → at + n ≤ length l → allDigits (run at n l) ≡ true → number n at s < 10 ^ n
   number-below n at room d =
       rw (length-run n at) at (value-below (run at n s) (run-digits n at room d))
-
-  pub pair-small : (at : ℕ) → at + 2 ≤ length l → allDigits (run at 2 l) ≡ true → number 2 at s % 256 ≡ number 2 at s
-  pair-small at room d = omega (arith, number-below 2 at room d)

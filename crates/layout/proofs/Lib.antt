@@ -1,5 +1,8 @@
 -- Laws of the definitions, and the main results.
 pub mod LayoutLaws
+pub mod PartLaws
+pub mod WordLaws
+pub mod PairLaws
 pub mod TextLaws
 pub mod AcceptLaws
 pub mod WriteLaws

@@ -6,10 +6,7 @@ use mathlib.Core.Bool.{Bool, true, false, cond, not, _&&_, _||_}
 use mathlib.Core.List.{List, [], _∷_}
 use lib.Dec.{ltb, eqb}
 use lib.ListN.{length, getD}
-use Rattle.clock_time.specs.Errors.{errorNumber}
 use Rattle.decimal.specs.Decimal.{isDigit, value}
-use Rattle.layout.specs.declared.LayoutCheck.{LayoutCheck}
-use Rattle.layout.specs.declared.LayoutCheck.the-variants.{Fits, Offends}
 
 -- A place is a number: below 256 that byte and no other; `digit`, a decimal digit; `free`, any byte, since other rules
 -- speak of it; `flag a`, the letter a or a blank; `either a b`, the letter a, the letter b or a blank.
@@ -66,26 +63,9 @@ first k (p ∷ l) (b ∷ s) = cond (eqb (offence p b) k) 0 (suc (first k l s))
 abbrev pub found : ℕ → List ℕ → List ℕ → Bool
 found k l s = ltb (first k l s) (length l)
 
--- an error number, 0 for none, and the place that offends
-pub record Fault : Type 0 where
-  pub number : ℕ
-  pub place : ℕ
-
-abbrev pub fault : ℕ → ℕ → Fault
-fault k i = record { number = k; place = i }
-
--- the first of the numbers that a place has, with the first such place
-abbrev pub firstFault : List ℕ → List ℕ → List ℕ → Fault
-firstFault [] l s = fault 0 0
-firstFault (k ∷ ks) l s = cond (found k l s) (fault k (first k l s)) (firstFault ks l s)
-
--- "Order for text: 1, 2, 3, 4" (01, Refusal numbers)
-unfoldable pub checkLayout : List ℕ → List ℕ → Fault
-checkLayout l s = cond (eqb (length l) (length s)) (firstFault (2 ∷ 3 ∷ 4 ∷ []) l s) (fault 1 0)
-
-abbrev pub layoutFault : LayoutCheck → Fault
-layoutFault Fits = fault 0 0
-layoutFault (Offends e i) = fault (errorNumber e) i
+-- "Order for text: 1, 2, 3, 4" (01, Refusal numbers): the number of a string that does not fit its layout
+unfoldable pub layoutError : List ℕ → List ℕ → ℕ
+layoutError l s = cond (eqb (length l) (length s)) (cond (found 2 l s) 2 (cond (found 3 l s) 3 4)) 1
 
 -- the k bytes of s from a place on
 abbrev pub run : ℕ → ℕ → List ℕ → List ℕ

@@ -1,5 +1,6 @@
 -- The definitions that the contracts and the main results cite.
 pub mod Ascii
 pub mod Layout
+pub mod Words
 pub mod Text
 pub mod Accepts

@@ -15,8 +15,7 @@ use Rattle.layout.specs.declared.ReadAnswer.{ReadAnswer}
 use Rattle.layout.specs.declared.ReadAnswer.the-variants.{Read, Refused}
 
 -- A format: its layout, what its fields say, its own faults beyond those that all formats share; and the only string
--- that
--- could be read as a value, with the test that two values are the same.
+-- that could be read as a value, with the test that two values are the same.
 pub record Format (A : Type 0) : Type 0 where
   pub layout : List ℕ
   pub flagFault : List ℕ → Bool

@@ -1,22 +1,17 @@
-// The layouts of time strings: whether a string has the bytes that its layout asks for, the numbers at its places, and
-// the checks of a clock time that every format shares.
+// The layouts of time strings: which error a string has that does not fit, and the checks of a clock time that every
+// format shares.
 use clock_time::ClockTime;
 use clock_time::Error;
 ghost use mathlib.Core.Path.{_≡_};
-ghost use Prim.Native.Nat.{_%_};
 ghost use lib.ListN.{length};
-ghost use Rattle.clock_time.specs.Errors.{checked};
-ghost use Rattle.layout.specs.Layout.{allowed, errorAt, offence, first, checkLayout, layoutFault, number};
+ghost use Rattle.clock_time.specs.Errors.{errorNumber, checked};
+ghost use Rattle.layout.specs.Layout.{allowed, errorAt, offence, first, layoutError};
 ghost use Rattle.layout.specs.Text.{clockChecks, readAnswer};
 ghost use Rattle.clock_time.specs.Writing.{isAccepted};
 ghost use Rattle.clock_time.specs.Same.{sameTime};
 ghost use mathlib.Core.Bool.{cond};
 
-// Whether a string fits its layout: or the error, with the first place that offends.
-pub enum LayoutCheck {
-    Fits,
-    Offends(Error, usize),
-}
+pub mod words;
 
 // The clock time that was read, or the error.
 pub enum ReadAnswer {
@@ -80,51 +75,20 @@ fn first_offence(k: u8, layout: &[u32], s: &[u8]) -> usize
     i
 }
 
-// Whether `s` fits `layout`; else 1, or the first place of 2, of 3 or of 4, in this order.
-pub fn check_layout(layout: &[u32], s: &[u8]) -> LayoutCheck
-    ensures { λ r. ⌜ layoutFault r ≡ checkLayout (now (layout .entry)) (now (s .entry)) ⌝ }
+// The error of a string that does not fit its layout: 1, 2, 3 or 4, the first that holds.
+pub fn layout_error(layout: &[u32], s: &[u8]) -> Error
+    ensures { λ r. ⌜ errorNumber r ≡ layoutError (now (layout .entry)) (now (s .entry)) ⌝ }
 {
     if layout.len() != s.len() {
-        return LayoutCheck::Offends(Error::Length, 0);
+        return Error::Length;
     }
-    let fixed = first_offence(2, layout, s);
-    if fixed < layout.len() {
-        return LayoutCheck::Offends(Error::FixedByte, fixed);
+    if first_offence(2, layout, s) < layout.len() {
+        return Error::FixedByte;
     }
-    let digit = first_offence(3, layout, s);
-    if digit < layout.len() {
-        return LayoutCheck::Offends(Error::NotDigit, digit);
+    if first_offence(3, layout, s) < layout.len() {
+        return Error::NotDigit;
     }
-    let flag = first_offence(4, layout, s);
-    if flag < layout.len() {
-        return LayoutCheck::Offends(Error::FlagLetter, flag);
-    }
-    LayoutCheck::Fits
-}
-
-// The digit at a place of `s`; 0 for a byte below the digits, and past the end.
-pub fn digit_at(s: &[u8], at: usize) -> u8
-    ensures { λ r. ⌜ r ≡ number 1 at (now (s .entry)) ⌝ }
-{
-    if at >= s.len() {
-        return 0;
-    }
-    let b = s[at];
-    if b < 48 {
-        return 0;
-    }
-    b - 48
-}
-
-// The number of the two digits from a place of `s` on, modulo 256.
-pub fn pair_at(s: &[u8], at: usize) -> u8
-    ensures { λ r. ⌜ r ≡ number 2 at (now (s .entry)) % 256 ⌝ }
-{
-    if s.len() <= at {
-        return 0;
-    }
-    let pair = 10 * (digit_at(s, at) as u16) + digit_at(s, at + 1) as u16;
-    (pair % 256) as u8
+    Error::FlagLetter
 }
 
 // The clock time, or the first of 5, 6 and 7 that holds of it; `mismatch` is a further reason for 6.

@@ -17,8 +17,7 @@ use Rattle.layout.specs.Layout.{digit, flag, either, places, number, has}
 use Rattle.layout.specs.Text.{Format, readText, writeText, letter}
 
 -- "`STX D:dd.mm.yy;T:w;U:hh.mm.ss;uvxy ETX` [..] The time has dots: 002 shows colons in the layout, dots in its
--- pattern.
--- Dots hold." (01, Meinberg and ELV strings)
+-- pattern. Dots hold." (01, Meinberg and ELV strings)
 unfoldable pub standardLayout : List ℕ
 standardLayout =
     ascii "\u{2}D:" ++ places 2 digit ++ ascii "." ++ places 2 digit ++ ascii "." ++ places 2 digit

@@ -1,12 +1,14 @@
 // The Meinberg standard string.
 use clock_time::ClockTime;
+use clock_time::Error;
 use clock_time::WriteAnswer;
-use layout::LayoutCheck;
 use layout::ReadAnswer;
+use layout::words;
 ghost use mathlib.Core.Path.{_≡_};
 ghost use mathlib.Core.Bool.{true};
 ghost use lib.ListN.{length};
-ghost use Rattle.layout.specs.Layout.{FitsLayout, fitsFrom, checkLayout, layoutFault};
+ghost use Rattle.clock_time.specs.Errors.{errorNumber};
+ghost use Rattle.layout.specs.Layout.{FitsLayout, fitsFrom, layoutError};
 ghost use Rattle.layout.specs.Text.{readAnswer};
 ghost use Rattle.meinberg_standard.specs.Standard.{standardLayout, standardZone, standardFields, readStandard};
 ghost use Rattle.meinberg_standard.specs.Standard.{zoneLetter, announcedLetter, lineOf, standardText};
@@ -60,72 +62,26 @@ const STANDARD: [u32; 32] = [
 ];
 
 // Whether every place has a byte that may stand there.
-fn all_fit(s: &[u8]) -> bool
+fn fits(s: &[u8]) -> bool
     requires { ⌜ length (now s) ≡ 32 ⌝ }
     ensures { λ r. ⌜ r ≡ fitsFrom true 0 standardLayout (now (s .entry)) ⌝ }
 {
-    let date = (s[0] == 2)
-        & (s[1] == b'D')
-        & (s[2] == b':')
-        & ((48 <= s[3]) & (s[3] <= 57))
-        & ((48 <= s[4]) & (s[4] <= 57))
-        & (s[5] == b'.')
-        & ((48 <= s[6]) & (s[6] <= 57))
-        & ((48 <= s[7]) & (s[7] <= 57))
-        & (s[8] == b'.')
-        & ((48 <= s[9]) & (s[9] <= 57))
-        & ((48 <= s[10]) & (s[10] <= 57));
-    if !date {
-        return false;
-    }
-    let weekday = date
-        & (s[11] == b';')
-        & (s[12] == b'T')
-        & (s[13] == b':')
-        & ((48 <= s[14]) & (s[14] <= 57))
-        & (s[15] == b';')
-        & (s[16] == b'U')
-        & (s[17] == b':');
-    if !weekday {
-        return false;
-    }
-    let time = weekday
-        & ((48 <= s[18]) & (s[18] <= 57))
-        & ((48 <= s[19]) & (s[19] <= 57))
-        & (s[20] == b'.')
-        & ((48 <= s[21]) & (s[21] <= 57))
-        & ((48 <= s[22]) & (s[22] <= 57))
-        & (s[23] == b'.')
-        & ((48 <= s[24]) & (s[24] <= 57))
-        & ((48 <= s[25]) & (s[25] <= 57))
-        & (s[26] == b';');
-    if !time {
-        return false;
-    }
-    time
-        & ((s[27] == b' ') | (s[27] == b'#'))
+    let flags = ((s[27] == b' ') | (s[27] == b'#'))
         & ((s[28] == b' ') | (s[28] == b'*'))
         & ((s[29] == b' ') | (s[29] == b'U') | (s[29] == b'S'))
-        & ((s[30] == b' ') | (s[30] == b'!') | (s[30] == b'A'))
-        & (s[31] == 3)
+        & ((s[30] == b' ') | (s[30] == b'!') | (s[30] == b'A'));
+    let places = words::eight_fit(s, 0, 2, b'D', b':', b'0', b'0', b'.', b'0', b'0')
+        & words::eight_fit(s, 8, b'.', b'0', b'0', b';', b'T', b':', b'0', b';')
+        & words::eight_fit(s, 16, b'U', b':', b'0', b'0', b'.', b'0', b'0', b'.')
+        & words::eight_fit(s, 24, b'0', b'0', b';', 0, 0, 0, 0, 3);
+    places & flags
 }
 
-fn first_error(s: &[u8]) -> LayoutCheck
-    ensures { λ r. ⌜ layoutFault r ≡ checkLayout standardLayout (now (s .entry)) ⌝ }
+// The error of a string that does not fit.
+fn first_error(s: &[u8]) -> Error
+    ensures { λ r. ⌜ errorNumber r ≡ layoutError standardLayout (now (s .entry)) ⌝ }
 {
-    layout::check_layout(&STANDARD, s)
-}
-
-// The places are gone over once. Only where one offends is the first error looked for.
-fn check(s: &[u8]) -> LayoutCheck
-    ensures { λ r. ⌜ layoutFault r ≡ checkLayout standardLayout (now (s .entry)) ⌝ }
-{
-    if s.len() == 32 {
-        if all_fit(s) {
-            return LayoutCheck::Fits;
-        }
-    }
-    first_error(s)
+    layout::layout_error(&STANDARD, s)
 }
 
 // The UTC offset that the zone letter stands for.
@@ -145,16 +101,18 @@ fn fields(s: &[u8]) -> ClockTime
     requires { ⌜ (length (now s) ≡ 32) × FitsLayout standardLayout (now s) ⌝ }
     ensures { λ r. ⌜ r ≡ standardFields (now (s .entry)) ⌝ }
 {
+    let date = words::numbers_at(s, 3);
+    let time = words::numbers_at(s, 18);
     let zone = s[29];
     let announced = s[30];
     ClockTime {
-        year: calendar::date::full_year(layout::pair_at(s, 9)),
-        month: layout::pair_at(s, 6),
-        day: layout::pair_at(s, 3),
-        weekday: layout::digit_at(s, 14),
-        hour: layout::pair_at(s, 18),
-        minute: layout::pair_at(s, 21),
-        second: layout::pair_at(s, 24),
+        year: calendar::date::full_year(date.third),
+        month: date.second,
+        day: date.first,
+        weekday: s[14] % 16,
+        hour: time.first,
+        minute: time.second,
+        second: time.third,
         utc_offset: zone_offset(zone),
         unsynchronised: s[27] == b'#',
         unverified: s[28] == b'*',
@@ -169,10 +127,13 @@ fn fields(s: &[u8]) -> ClockTime
 pub fn read_standard(s: &[u8]) -> ReadAnswer
     ensures { λ r. ⌜ readAnswer r ≡ readStandard (now (s .entry)) ⌝ }
 {
-    match check(s) {
-        LayoutCheck::Offends(e, _) => ReadAnswer::Refused(e),
-        LayoutCheck::Fits => layout::check_clock(fields(s), false),
+    if s.len() != 32 {
+        return ReadAnswer::Refused(first_error(s));
     }
+    if fits(s) {
+        return layout::check_clock(fields(s), false);
+    }
+    ReadAnswer::Refused(first_error(s))
 }
 
 fn zone_letter(offset: i16, summer: bool) -> u8
@@ -247,8 +208,7 @@ fn line_of(t: ClockTime) -> [u8; 32]
 }
 
 // Writes a clock time as a Meinberg standard string to the front of `out`: 23 where no such string is read as it, 20
-// where
-// there is no room for 32 bytes.
+// where there is no room for 32 bytes.
 pub fn write_standard(t: ClockTime, out: &mut [u8]) -> WriteAnswer
     ensures { λ r. ⌜ outcome r (now (out .exit)) ≡ writeStandard t (now (out .entry)) ⌝ }
 {

@@ -7,7 +7,7 @@ use Rattle.meinberg_standard.proofs.first_error.Tie as tie
 
 returns : tie.Need-returns
 unfolding ascii standardLayout
-returns c = c .check-layout .ensures
+returns c = c .layout-error .ensures
 
 pub first-error-spec : {M : Type 1} → statement M
 first-error-spec = tie.close (tie.spec (λ c. search needs) (λ c κs. search needs) returns)

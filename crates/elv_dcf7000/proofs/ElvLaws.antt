@@ -15,9 +15,7 @@ use Rattle.layout.specs.Ascii.{ascii}
 use Rattle.layout.specs.Accepts.{Accepts}
 use Rattle.layout.specs.Layout.{FitsLayout, number}
 use Rattle.layout.specs.Text.{clockChecks}
-use Rattle.layout.specs.declared.LayoutCheck.the-variants.{Fits}
-use Rattle.layout.proofs.LayoutLaws.{fits-check}
-use Rattle.layout.proofs.TextLaws.{read-after}
+use Rattle.layout.proofs.TextLaws.{read-fitting}
 use Rattle.layout.proofs.WriteLaws.{restore-fits, digits-number, digits-year}
 use Rattle.elv_dcf7000.specs.Elv.{elvLayout, weekdayAnswer, elvWeekday, elvFlags, elvFlagFault}
 use Rattle.elv_dcf7000.specs.Elv.{summerIn, changeIn, unsynchronisedIn, elvFields, flagSum, elvText, elv, readElv}
@@ -60,11 +58,11 @@ no-date false k w rest e = let five : 5 ≡ k = cc in ap refused five
 module _ {s : List ℕ} (h : FitsLayout elvLayout s) where
   pub read-flags : 7 < elvFlags s → readElv s ≡ refused 4
   unfolding readElv elv elvFlagFault
-  read-flags k = read-after elv s Fits (fits-check h) ∙ simp (lt-ltb 7 (elvFlags s) k)
+  read-flags k = read-fitting elv s h ∙ simp (lt-ltb 7 (elvFlags s) k)
 
   pub read-clock : elvFlags s ≤ 7 → readElv s ≡ checked (clockChecks (elvFields s) false) (elvFields s)
   unfolding readElv elv elvFlagFault
-  read-clock k = read-after elv s Fits (fits-check h) ∙ simp (le-ltb 7 (elvFlags s) k)
+  read-clock k = read-fitting elv s h ∙ simp (le-ltb 7 (elvFlags s) k)
 
   -- a date that the calendar refuses does not exist
   pub read-date : elvFlags s ≤ 7 → (k : ℕ) → refused k ≡ weekdayAnswer s → readElv s ≡ refused k

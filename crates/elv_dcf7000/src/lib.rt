@@ -3,13 +3,14 @@ use calendar::date::DateAnswer;
 use clock_time::ClockTime;
 use clock_time::Error;
 use clock_time::WriteAnswer;
-use layout::LayoutCheck;
 use layout::ReadAnswer;
+use layout::words;
 ghost use mathlib.Core.Path.{_≡_};
 ghost use mathlib.Core.Bool.{true};
 ghost use lib.ListN.{length};
 ghost use Rattle.clock_time.specs.Writing.{outcome};
-ghost use Rattle.layout.specs.Layout.{FitsLayout, fitsFrom, checkLayout, layoutFault};
+ghost use Rattle.clock_time.specs.Errors.{errorNumber};
+ghost use Rattle.layout.specs.Layout.{FitsLayout, fitsFrom, layoutError};
 ghost use Rattle.layout.specs.Text.{readAnswer};
 ghost use Rattle.calendar.specs.Date.{dateAnswer};
 ghost use Rattle.elv_dcf7000.specs.Elv.{elvLayout, weekdayAnswer, elvWeekday, elvFlags, elvOffset, elvFields};
@@ -43,34 +44,12 @@ const ELV: [u32; 21] = [
 ];
 
 // Whether every place has a byte that may stand there.
-fn all_fit(s: &[u8]) -> bool
+fn fits(s: &[u8]) -> bool
     requires { ⌜ length (now s) ≡ 21 ⌝ }
     ensures { λ r. ⌜ r ≡ fitsFrom true 0 elvLayout (now (s .entry)) ⌝ }
 {
-    let date = ((48 <= s[0]) & (s[0] <= 57))
-        & ((48 <= s[1]) & (s[1] <= 57))
-        & (s[2] == b'-')
-        & ((48 <= s[3]) & (s[3] <= 57))
-        & ((48 <= s[4]) & (s[4] <= 57))
-        & (s[5] == b'-')
-        & ((48 <= s[6]) & (s[6] <= 57))
-        & ((48 <= s[7]) & (s[7] <= 57));
-    if !date {
-        return false;
-    }
-    let minute = date
-        & (s[8] == b'-')
-        & ((48 <= s[9]) & (s[9] <= 57))
-        & ((48 <= s[10]) & (s[10] <= 57))
-        & (s[11] == b'-')
-        & ((48 <= s[12]) & (s[12] <= 57))
-        & ((48 <= s[13]) & (s[13] <= 57));
-    if !minute {
-        return false;
-    }
-    minute
-        & (s[14] == b'-')
-        & ((48 <= s[15]) & (s[15] <= 57))
+    words::eight_fit(s, 0, b'0', b'0', b'-', b'0', b'0', b'-', b'0', b'0')
+        & words::eight_fit(s, 8, b'-', b'0', b'0', b'-', b'0', b'0', b'-', b'0')
         & ((48 <= s[16]) & (s[16] <= 57))
         & (s[17] == b'-')
         & ((48 <= s[18]) & (s[18] <= 57))
@@ -78,22 +57,11 @@ fn all_fit(s: &[u8]) -> bool
         & (s[20] == 13)
 }
 
-fn first_error(s: &[u8]) -> LayoutCheck
-    ensures { λ r. ⌜ layoutFault r ≡ checkLayout elvLayout (now (s .entry)) ⌝ }
+// The error of a string that does not fit.
+fn first_error(s: &[u8]) -> Error
+    ensures { λ r. ⌜ errorNumber r ≡ layoutError elvLayout (now (s .entry)) ⌝ }
 {
-    layout::check_layout(&ELV, s)
-}
-
-// The places are gone over once. Only where one offends is the first error looked for.
-fn check(s: &[u8]) -> LayoutCheck
-    ensures { λ r. ⌜ layoutFault r ≡ checkLayout elvLayout (now (s .entry)) ⌝ }
-{
-    if s.len() == 21 {
-        if all_fit(s) {
-            return LayoutCheck::Fits;
-        }
-    }
-    first_error(s)
+    layout::layout_error(&ELV, s)
 }
 
 fn offset_of(summer: bool) -> i16
@@ -104,10 +72,10 @@ fn offset_of(summer: bool) -> i16
 
 // The number of the flags.
 fn flags_of(s: &[u8]) -> u8
-    requires { ⌜ FitsLayout elvLayout (now s) ⌝ }
+    requires { ⌜ (length (now s) ≡ 21) × FitsLayout elvLayout (now s) ⌝ }
     ensures { λ r. ⌜ r ≡ elvFlags (now (s .entry)) ⌝ }
 {
-    layout::pair_at(s, 18)
+    10 * (s[18] % 16) + s[19] % 16
 }
 
 // The weekday of the date, or 5.
@@ -115,26 +83,26 @@ fn weekday_of(s: &[u8]) -> DateAnswer
     requires { ⌜ FitsLayout elvLayout (now s) ⌝ }
     ensures { λ r. ⌜ dateAnswer r ≡ weekdayAnswer (now (s .entry)) ⌝ }
 {
-    let year = calendar::date::full_year(layout::pair_at(s, 0));
-    let month = layout::pair_at(s, 3);
-    let day = layout::pair_at(s, 6);
-    calendar::date::weekday_of(year, month, day)
+    let date = words::numbers_at(s, 0);
+    let year = calendar::date::full_year(date.first);
+    calendar::date::weekday_of(year, date.second, date.third)
 }
 
-fn fields(s: &[u8], weekday: u8) -> ClockTime
-    requires { ⌜ FitsLayout elvLayout (now s) × (weekday ≡ elvWeekday (now s)) ⌝ }
+fn fields(s: &[u8], flags: u8, weekday: u8) -> ClockTime
+    requires { ⌜ FitsLayout elvLayout (now s) × ((flags ≡ elvFlags (now s)) × (weekday ≡ elvWeekday (now s))) ⌝ }
     ensures { λ r. ⌜ r ≡ elvFields (now (s .entry)) ⌝ }
 {
-    let flags = flags_of(s);
+    let date = words::numbers_at(s, 0);
+    let time = words::numbers_at(s, 9);
     let summer = flags % 2 == 1;
     ClockTime {
-        year: calendar::date::full_year(layout::pair_at(s, 0)),
-        month: layout::pair_at(s, 3),
-        day: layout::pair_at(s, 6),
+        year: calendar::date::full_year(date.first),
+        month: date.second,
+        day: date.third,
         weekday: weekday,
-        hour: layout::pair_at(s, 9),
-        minute: layout::pair_at(s, 12),
-        second: layout::pair_at(s, 15),
+        hour: time.first,
+        minute: time.second,
+        second: time.third,
         utc_offset: offset_of(summer),
         unsynchronised: flags / 4 % 2 == 1,
         unverified: false,
@@ -147,14 +115,15 @@ fn fields(s: &[u8], weekday: u8) -> ClockTime
 
 // Reads a string that fits its layout. Only a date that exists has a weekday, so it is the date that is checked first.
 fn read_fitting(s: &[u8]) -> ReadAnswer
-    requires { ⌜ FitsLayout elvLayout (now s) ⌝ }
+    requires { ⌜ (length (now s) ≡ 21) × FitsLayout elvLayout (now s) ⌝ }
     ensures { λ r. ⌜ readAnswer r ≡ readElv (now (s .entry)) ⌝ }
 {
-    if 7 < flags_of(s) {
+    let flags = flags_of(s);
+    if 7 < flags {
         return ReadAnswer::Refused(Error::FlagLetter);
     }
     match weekday_of(s) {
-        DateAnswer::Number(weekday) => layout::check_clock(fields(s, weekday as u8), false),
+        DateAnswer::Number(weekday) => layout::check_clock(fields(s, flags, weekday as u8), false),
         DateAnswer::Refused(e) => ReadAnswer::Refused(e),
     }
 }
@@ -163,10 +132,13 @@ fn read_fitting(s: &[u8]) -> ReadAnswer
 pub fn read_elv(s: &[u8]) -> ReadAnswer
     ensures { λ r. ⌜ readAnswer r ≡ readElv (now (s .entry)) ⌝ }
 {
-    match check(s) {
-        LayoutCheck::Offends(e, _) => ReadAnswer::Refused(e),
-        LayoutCheck::Fits => read_fitting(s),
+    if s.len() != 21 {
+        return ReadAnswer::Refused(first_error(s));
     }
+    if fits(s) {
+        return read_fitting(s);
+    }
+    ReadAnswer::Refused(first_error(s))
 }
 
 fn flag_sum(summer: bool, change: bool, unsynchronised: bool) -> u8

@@ -98,7 +98,7 @@ module _ {l s : List ℕ} (h : FitsLayout l s) where
       let w = both (eqb (getD l at 0) digit) true d in
       omega (arith, digit-range (getD s at 0) (digit-place h at (omega arith) (w .0)))
 
-  low-pair : (at : ℕ) → at + 2 ≤ length l → allDigits (run at 2 l) ≡ true → lowPair at s ≡ number 2 at s
+  pub low-pair : (at : ℕ) → at + 2 ≤ length l → allDigits (run at 2 l) ≡ true → lowPair at s ≡ number 2 at s
   unfolding lowPair valueFrom
   low-pair at room d =
       let w = both (eqb (getD l at 0) digit) (allDigits (run (suc at) 1 l)) d in
@@ -109,17 +109,18 @@ module _ {l s : List ℕ} (h : FitsLayout l s) where
         digit-range (getD s (suc at) 0) (digit-place h (suc at) (omega arith) (v .0)),
       )
 
-  -- three pairs of digits of a string that fits its layout
+  -- two and three pairs of digits of a string that fits its layout
+  pub numbers-two : (at : ℕ) → at + 8 ≤ length l → allDigits (run at 2 l) ≡ true
+      → allDigits (run (at + 3) 2 l) ≡ true
+      → numbersAt at s
+      ≡ record { first = number 2 at s; second = number 2 (at + 3) s; third = lowPair (at + 6) s }
+  unfolding numbersAt threeNumbers
+  numbers-two at room a b =
+      let eight : at + 8 ≤ length s = omega (arith, h .long) in
+      rw (enough-bytes at s eight, low-pair at (omega arith) a, low-pair (at + 3) (omega arith) b)
+
   pub numbers-fit : (at : ℕ) → at + 8 ≤ length l → allDigits (run at 2 l) ≡ true
       → allDigits (run (at + 3) 2 l) ≡ true → allDigits (run (at + 6) 2 l) ≡ true
       → numbersAt at s
       ≡ record { first = number 2 at s; second = number 2 (at + 3) s; third = number 2 (at + 6) s }
-  unfolding numbersAt threeNumbers
-  numbers-fit at room a b c =
-      let eight : at + 8 ≤ length s = omega (arith, h .long) in
-      rw (
-        enough-bytes at s eight,
-        low-pair at (omega arith) a,
-        low-pair (at + 3) (omega arith) b,
-        low-pair (at + 6) (omega arith) c,
-      )
+  numbers-fit at room a b c = numbers-two at room a b ∙ rw (low-pair (at + 6) (omega arith) c)

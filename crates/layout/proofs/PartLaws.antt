@@ -54,7 +54,7 @@ abbrev pub eightsFit : ℕ → Bool → ℕ → List ℕ → List ℕ → Bool
 eightsFit zero t i l s = singlesFit t i l s
 eightsFit (suc k) t i l s = eightsFit k (t && fitsFrom true i (take 8 l) s) (i + 8) (drop 8 l) s
 
-eights : (k : ℕ) (t : Bool) (i : ℕ) (l s : List ℕ) → eightsFit k t i l s ≡ fitsFrom t i l s
+pub eights : (k : ℕ) (t : Bool) (i : ℕ) (l s : List ℕ) → eightsFit k t i l s ≡ fitsFrom t i l s
 eights zero t i l s = singles t i l s
 eights (suc k) t i l s =
     eights k (t && fitsFrom true i (take 8 l) s) (i + 8) (drop 8 l) s

@@ -1,15 +1,17 @@
 // The Meinberg PZF string.
 use clock_time::ClockTime;
+use clock_time::Error;
 use clock_time::WriteAnswer;
-use layout::LayoutCheck;
 use layout::ReadAnswer;
+use layout::words;
 ghost use mathlib.Core.Path.{_≡_};
 ghost use mathlib.Core.Bool.{true};
 ghost use lib.ListN.{length};
 ghost use lib.IntN.{pos};
 ghost use Rattle.clock_time.specs.Same.{eqℤ};
 ghost use Rattle.clock_time.specs.Writing.{outcome};
-ghost use Rattle.layout.specs.Layout.{FitsLayout, fitsFrom, checkLayout, layoutFault};
+ghost use Rattle.clock_time.specs.Errors.{errorNumber};
+ghost use Rattle.layout.specs.Layout.{FitsLayout, fitsFrom, layoutError};
 ghost use Rattle.layout.specs.Text.{readAnswer, letter};
 ghost use Rattle.meinberg_pzf.specs.Pzf.{pzfLayout, pzfOffset, pzfFields, readPzf, lineOf, pzfText, writePzf};
 
@@ -66,72 +68,29 @@ const PZF: [u32; 32] = [
 ];
 
 // Whether every place has a byte that may stand there.
-fn all_fit(s: &[u8]) -> bool
+fn fits(s: &[u8]) -> bool
     requires { ⌜ length (now s) ≡ 32 ⌝ }
     ensures { λ r. ⌜ r ≡ fitsFrom true 0 pzfLayout (now (s .entry)) ⌝ }
 {
-    let date = (s[0] == 2)
-        & ((48 <= s[1]) & (s[1] <= 57))
-        & ((48 <= s[2]) & (s[2] <= 57))
-        & (s[3] == b'.')
-        & ((48 <= s[4]) & (s[4] <= 57))
-        & ((48 <= s[5]) & (s[5] <= 57))
-        & (s[6] == b'.')
-        & ((48 <= s[7]) & (s[7] <= 57))
-        & ((48 <= s[8]) & (s[8] <= 57))
-        & (s[9] == b';')
-        & (s[10] == b' ');
-    if !date {
-        return false;
-    }
-    let hour = date
-        & ((48 <= s[11]) & (s[11] <= 57))
-        & (s[12] == b';')
-        & (s[13] == b' ')
-        & ((48 <= s[14]) & (s[14] <= 57))
-        & ((48 <= s[15]) & (s[15] <= 57))
-        & (s[16] == b':');
-    if !hour {
-        return false;
-    }
-    let time = hour
-        & ((48 <= s[17]) & (s[17] <= 57))
-        & ((48 <= s[18]) & (s[18] <= 57))
-        & (s[19] == b':')
-        & ((48 <= s[20]) & (s[20] <= 57))
-        & ((48 <= s[21]) & (s[21] <= 57))
-        & (s[22] == b';')
-        & (s[23] == b' ');
-    if !time {
-        return false;
-    }
-    time
-        & ((s[24] == b' ') | (s[24] == b'U'))
+    let flags = ((s[24] == b' ') | (s[24] == b'U'))
         & ((s[25] == b' ') | (s[25] == b'#'))
         & ((s[26] == b' ') | (s[26] == b'*'))
         & ((s[27] == b' ') | (s[27] == b'S'))
         & ((s[28] == b' ') | (s[28] == b'!'))
         & ((s[29] == b' ') | (s[29] == b'A'))
-        & ((s[30] == b' ') | (s[30] == b'R'))
-        & (s[31] == 3)
+        & ((s[30] == b' ') | (s[30] == b'R'));
+    let places = words::eight_fit(s, 0, 2, b'0', b'0', b'.', b'0', b'0', b'.', b'0')
+        & words::eight_fit(s, 8, b'0', b';', b' ', b'0', b';', b' ', b'0', b'0')
+        & words::eight_fit(s, 16, b':', b'0', b'0', b':', b'0', b'0', b';', b' ')
+        & words::eight_fit(s, 24, 0, 0, 0, 0, 0, 0, 0, 3);
+    places & flags
 }
 
-fn first_error(s: &[u8]) -> LayoutCheck
-    ensures { λ r. ⌜ layoutFault r ≡ checkLayout pzfLayout (now (s .entry)) ⌝ }
+// The error of a string that does not fit.
+fn first_error(s: &[u8]) -> Error
+    ensures { λ r. ⌜ errorNumber r ≡ layoutError pzfLayout (now (s .entry)) ⌝ }
 {
-    layout::check_layout(&PZF, s)
-}
-
-// The places are gone over once. Only where one offends is the first error looked for.
-fn check(s: &[u8]) -> LayoutCheck
-    ensures { λ r. ⌜ layoutFault r ≡ checkLayout pzfLayout (now (s .entry)) ⌝ }
-{
-    if s.len() == 32 {
-        if all_fit(s) {
-            return LayoutCheck::Fits;
-        }
-    }
-    first_error(s)
+    layout::layout_error(&PZF, s)
 }
 
 // The UTC offset that the flags t and x stand for.
@@ -151,16 +110,18 @@ fn fields(s: &[u8]) -> ClockTime
     requires { ⌜ (length (now s) ≡ 32) × FitsLayout pzfLayout (now s) ⌝ }
     ensures { λ r. ⌜ r ≡ pzfFields (now (s .entry)) ⌝ }
 {
+    let date = words::numbers_at(s, 1);
+    let time = words::numbers_at(s, 14);
     let utc = s[24] == b'U';
     let summer = s[27] == b'S';
     ClockTime {
-        year: calendar::date::full_year(layout::pair_at(s, 7)),
-        month: layout::pair_at(s, 4),
-        day: layout::pair_at(s, 1),
-        weekday: layout::digit_at(s, 11),
-        hour: layout::pair_at(s, 14),
-        minute: layout::pair_at(s, 17),
-        second: layout::pair_at(s, 20),
+        year: calendar::date::full_year(date.third),
+        month: date.second,
+        day: date.first,
+        weekday: s[11] % 16,
+        hour: time.first,
+        minute: time.second,
+        second: time.third,
         utc_offset: offset_of(utc, summer),
         unsynchronised: s[25] == b'#',
         unverified: s[26] == b'*',
@@ -175,10 +136,13 @@ fn fields(s: &[u8]) -> ClockTime
 pub fn read_pzf(s: &[u8]) -> ReadAnswer
     ensures { λ r. ⌜ readAnswer r ≡ readPzf (now (s .entry)) ⌝ }
 {
-    match check(s) {
-        LayoutCheck::Offends(e, _) => ReadAnswer::Refused(e),
-        LayoutCheck::Fits => layout::check_clock(fields(s), false),
+    if s.len() != 32 {
+        return ReadAnswer::Refused(first_error(s));
     }
+    if fits(s) {
+        return layout::check_clock(fields(s), false);
+    }
+    ReadAnswer::Refused(first_error(s))
 }
 
 fn utc_letter(offset: i16) -> u8

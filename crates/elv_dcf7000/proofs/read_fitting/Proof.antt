@@ -11,7 +11,7 @@ use Rattle.elv_dcf7000.proofs.read_fitting.Tie as tie
 returns : tie.Need-returns
 returns c =
     let b = c .before in
-    sym (read-flags (b .before .before .pre) (omega (arith, b .flags-of .ensures, c .if1 .taken)))
+    sym (read-flags (b .before .before .pre .1) (omega (arith, b .flags-of .ensures, c .if1 .taken)))
 
 cast-fields : tie.Need-cast-fields
 cast-fields c =
@@ -24,14 +24,15 @@ fields-requires c κs =
     let b = c .before in
     let w = b .before .before in
     let answer = rw (b .weekday .given .1) at (w .weekday-of .ensures) in
-    (w .before .before .before .before .pre, weekday-answered _ _ answer)
+    let i = w .before .before in
+    (i .before .before .pre .1, (i .flags-of .ensures, weekday-answered _ _ answer))
 
 returns-2 : tie.Need-returns-2
 returns-2 c =
     let i = c .before .before .before .before .before .before in
     let few = rw (i .before .flags-of .ensures) at (i .if1 .left) in
     rw (c .before .fields .ensures) at (c .check-clock .ensures)
-    ∙ sym (read-clock (i .before .before .before .pre) few)
+    ∙ sym (read-clock (i .before .before .before .pre .1) few)
 
 returns-3 : tie.Need-returns-3
 returns-3 c =
@@ -39,7 +40,7 @@ returns-3 c =
     let i = w .before in
     let few = rw (i .before .flags-of .ensures) at (i .if1 .left) in
     let answer = rw (c .before .e .given .1) at (w .weekday-of .ensures) in
-    sym (read-date (i .before .before .before .pre) few _ answer)
+    sym (read-date (i .before .before .before .pre .1) few _ answer)
 
 pub read-fitting-spec : {M : Type 1} → statement M
 read-fitting-spec =

@@ -1,41 +1,50 @@
 -- `meinberg_pzf::read_pzf` meets its contract. Assumes nothing.
 use borrow.Author.Needs.{needs}
 use mathlib.Core.Path.{sym, _∙_}
+use denote.Ref.{now}
 use Rattle.layout.specs.Ascii.{ascii}
-use Rattle.layout.proofs.LayoutLaws.{check-fits}
-use Rattle.layout.proofs.TextLaws.{read-after}
+use Rattle.layout.specs.Layout.{FitsLayout}
+use Rattle.layout.proofs.LayoutLaws.{tested-fits, unfit}
+use Rattle.layout.proofs.TextLaws.{read-fitting, read-unfitting}
 use Rattle.meinberg_pzf.specs.Pzf.{pzfLayout, pzf, readPzf}
 use Rattle.meinberg_pzf.proofs.read_pzf.Statement.{statement}
 use Rattle.meinberg_pzf.proofs.read_pzf.Tie as tie
 
-fields-requires : tie.Need-fields-requires
+fitting : (c : tie.Then2) → FitsLayout pzfLayout (now (c .before .before .before .before .args .s))
 unfolding pzfLayout ascii
-fields-requires c κs =
-    let fit = check-fits pzfLayout _ (rw (c .enum-told .given .1) at (c .before .before .check .ensures)) in
-    (sym (fit .long), fit)
+fitting c =
+    let f = c .before in
+    tested-fits pzfLayout _ (sym (f .before .if1 .left)) (sym (f .fits2 .ensures) ∙ c .if2 .taken)
 
 returns : tie.Need-returns
 unfolding readPzf pzf pzfLayout ascii
-returns c =
-    let k = c .before .before .before in
-    sym (rw (c .before .e .given .1) at (read-after pzf _ (k .check .result) (k .check .ensures)))
+returns c = read-unfitting pzf _ (c .first-error .ensures) (λ h. c .before .if1 .taken (sym (h .long)))
+
+fields-requires : tie.Need-fields-requires
+unfolding pzfLayout ascii
+fields-requires c κs = (c .before .before .if1 .left, fitting c)
 
 returns-2 : tie.Need-returns-2
-unfolding readPzf pzf pzfLayout ascii
+unfolding readPzf pzf
 returns-2 c =
-    let told = c .before .before in
-    let k = told .before .before in
-    let read = read-after pzf _ (k .check .result) (k .check .ensures) in
-    rw (c .before .fields .ensures) at (c .check-clock .ensures) ∙ sym (rw (told .enum-told .given .1) at read)
+    rw (c .before .fields .ensures) at (c .check-clock .ensures)
+    ∙ sym (read-fitting pzf _ (fitting (c .before .before)))
+
+returns-3 : tie.Need-returns-3
+unfolding readPzf pzf
+returns-3 c =
+    let f = c .before .before in
+    read-unfitting pzf _ (c .first-error2 .ensures) (unfit (sym (f .fits2 .ensures) ∙ c .before .if2 .left))
 
 pub read-pzf-spec : {M : Type 1} → statement M
 read-pzf-spec =
     tie.close
     (tie.spec
     (λ c κs. search needs)
-    (λ c. search needs)
-    (λ c. search needs)
+    returns
+    (λ c κs. search needs)
     fields-requires
     (λ c κs. search needs)
-    returns
-    returns-2)
+    returns-2
+    (λ c κs. search needs)
+    returns-3)

@@ -9,7 +9,7 @@ use mathlib.Core.Bool.{Bool, true, false, cond, and-eq-true-iff}
 use mathlib.Core.List.{List, [], _∷_, _++_, append-assoc, append-nil}
 use borrow.Author.Tests.{le-leb, leb-true}
 use lib.Dec.{leb, lit<}
-use lib.ListN.{length, length-append}
+use lib.ListN.{length, getD, length-append}
 use Rattle.decimal.specs.Decimal.{isDigit, firstNonDigit, valueFrom, value, digits}
 
 -- ---- powers of ten
@@ -66,20 +66,31 @@ unfolding valueFrom
 valueFrom-append n [] t = refl
 valueFrom-append n (b ∷ s) t = valueFrom-append (10 * n + (b - 48)) s t
 
-pub valueFrom-below : (n : ℕ) (s : List ℕ) → firstNonDigit s ≡ length s → valueFrom n s < (n + 1) * 10 ^ length s
+-- no byte is above the digits
+abbrev pub Low : List ℕ → Type 0
+Low s = (i : ℕ) → getD s i 0 ≤ 57
+
+valueFrom-low : (n : ℕ) (s : List ℕ) → Low s → valueFrom n s < (n + 1) * 10 ^ length s
 unfolding valueFrom
-valueFrom-below n [] h = omega arith
-valueFrom-below n (b ∷ s) h =
-    let d = digits-cons b s h in
-    let range = digit-range b (d .0) in
+valueFrom-low n [] h = omega arith
+valueFrom-low n (b ∷ s) h =
     let f : (n + 1) * 10 ≡ 10 * n + 10 = omega arith in
     let e : (n + 1) * 10 ^ suc (length s) ≡ (10 * n + 10) * 10 ^ length s = rw (pow-succ', ← mul-assoc, f) in
-    let g : 10 * n + (b - 48) + 1 ≤ 10 * n + 10 = omega arith in
-    rw e (lt-of-lt-of-le (valueFrom-below (10 * n + (b - 48)) s (d .1)) (mul-le-mul-right (10 ^ length s) g))
+    let g : 10 * n + (b - 48) + 1 ≤ 10 * n + 10 = omega (arith, h 0) in
+    let more = valueFrom-low (10 * n + (b - 48)) s (λ i. h (suc i)) in
+    rw e (lt-of-lt-of-le more (mul-le-mul-right (10 ^ length s) g))
+
+pub value-low : (s : List ℕ) → Low s → value s < 10 ^ length s
+value-low s h = rw one-mul at (valueFrom-low 0 s h)
+
+digits-low : (s : List ℕ) → firstNonDigit s ≡ length s → Low s
+digits-low [] h i = omega arith
+digits-low (b ∷ s) h zero = digit-range b (digits-cons b s h .0) .1
+digits-low (b ∷ s) h (suc i) = digits-low s (digits-cons b s h .1) i
 
 -- k digits stand for a number below 10 ^ k
 pub value-below : (s : List ℕ) → firstNonDigit s ≡ length s → value s < 10 ^ length s
-value-below s h = rw one-mul at (valueFrom-below 0 s h)
+value-below s h = value-low s (digits-low s h)
 
 -- ---- the digits of a number
 pub length-digits : (k n : ℕ) → length (digits k n) ≡ k

@@ -10,13 +10,7 @@ use borrow.Author.Tests.{ne-eqb}
 use Rattle.decimal.specs.Decimal.{valueFrom, value, digits}
 use Rattle.decimal.proofs.DecimalLaws.{digit-range}
 use Rattle.meinberg_gps.specs.Aligned.{areDigits, rightAligned, blankOr, padded, aligned}
-use Rattle.meinberg_gps.proofs.DigitLaws.{digits-cons}
-use Rattle.meinberg_gps.proofs.AlignedLaws.{Aligned, last, blank, high, aligned-how}
-
-pub value-append : (n : ℕ) (s t : List ℕ) → valueFrom n (s ++ t) ≡ valueFrom (valueFrom n s) t
-unfolding valueFrom
-value-append n [] t = refl
-value-append n (b ∷ s) t = value-append (10 * n + (b - 48)) s t
+use Rattle.meinberg_gps.proofs.AlignedLaws.{digits-cons, Aligned, last, blank, high, aligned-how}
 
 -- a number and a digit after it
 record Next (n b : ℕ) : Type 0 where

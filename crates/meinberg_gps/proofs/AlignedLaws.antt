@@ -1,16 +1,16 @@
 -- Laws of right-aligned numbers, each for any number of places. Assumes nothing.
 use Prim.Native.Nat.{ℕ, zero, suc, _+_, _-_, _*_, _%_, _^_, _≤_, _<_}
-use native.Mathlib.Nat.{pow-succ', one-mul, mul-assoc, lt-of-lt-of-le, mul-le-mul-right}
+use native.Mathlib.Decide.{decLt}
 use native.Mathlib.Omega.{arith}
 use mathlib.Core.Path.{_≡_, refl}
 use mathlib.Core.Bool.{Bool, true, false, _&&_, _||_, false≢true}
 use mathlib.Core.List.{List, [], _∷_}
 use lib.Dec.{leb, eqb}
-use lib.ListN.{length, getD}
+use lib.ListN.{length, getD, List·getD-eq-default}
 use borrow.Author.Tests.{eqb-true, leb-true, le-leb}
 use Rattle.clock_time.proofs.Tests.{both}
-use Rattle.decimal.specs.Decimal.{isDigit, valueFrom, value}
-use Rattle.decimal.proofs.DecimalLaws.{digit-range}
+use Rattle.decimal.specs.Decimal.{isDigit, value}
+use Rattle.decimal.proofs.DecimalLaws.{digit-range, Low, value-low}
 use Rattle.meinberg_gps.specs.Aligned.{areDigits, rightAligned, digitsOrBlanks}
 
 -- ---- digits and blanks
@@ -40,6 +40,13 @@ pub digits-plain : (s : List ℕ) → areDigits s ≡ true → digitsOrBlanks s 
 unfolding areDigits digitsOrBlanks
 digits-plain [] h = refl
 digits-plain (b ∷ s) h = let w = both (isDigit b) (areDigits s) h in simp (digit-plain b (w .0), digits-plain s (w .1))
+
+pub digits-cons : (b : ℕ) (s : List ℕ) → areDigits (b ∷ s) ≡ true → (48 ≤ b) × (b ≤ 57) × (areDigits s ≡ true)
+unfolding areDigits
+digits-cons b s h =
+    let w = both (isDigit b) (areDigits s) h in
+    let r = digit-range b (w .0) in
+    (r .0, r .1, w .1)
 
 -- ---- right-aligned numbers
 -- how a run of bytes is right-aligned: a digit, or after a blank, or digits that begin with no zero
@@ -73,17 +80,12 @@ aligned-made (high {b} {c} {s} lo hi d) =
 pub aligned-plain : (s : List ℕ) → rightAligned s ≡ true → digitsOrBlanks s ≡ true
 aligned-plain s h = aligned-made (aligned-how s h)
 
--- ---- k digits or blanks stand for a number below 10 ^ k
-below : (n : ℕ) (s : List ℕ) → digitsOrBlanks s ≡ true → valueFrom n s < (n + 1) * 10 ^ length s
-unfolding valueFrom digitsOrBlanks
-below n [] h = omega arith
-below n (b ∷ s) h =
-    let w = both (isDigit b || eqb b 32) (digitsOrBlanks s) h in
-    let p = plain-byte b (w .0) in
-    let f : (n + 1) * 10 ≡ 10 * n + 10 = omega arith in
-    let e : (n + 1) * 10 ^ suc (length s) ≡ (10 * n + 10) * 10 ^ length s = rw (pow-succ', ← mul-assoc, f) in
-    let g : 10 * n + (b - 48) + 1 ≤ 10 * n + 10 = omega arith in
-    rw e (lt-of-lt-of-le (below (10 * n + (b - 48)) s (w .1)) (mul-le-mul-right (10 ^ length s) g))
-
+-- k digits or blanks stand for a number below 10 ^ k
 pub value-small : (s : List ℕ) → digitsOrBlanks s ≡ true → value s < 10 ^ length s
-value-small s h = rw one-mul at (below 0 s h)
+value-small s h = value-low s (low s h)
+  where
+    low : (s : List ℕ) → digitsOrBlanks s ≡ true → Low s
+    low s h i = elim (decLt i (length s)) [
+      | yes l ↦ plain-at s h i l .small
+      | no l ↦ let out : length s ≤ i = omega arith in omega (arith, List·getD-eq-default s 0 out)
+    ]

@@ -24,7 +24,8 @@ use Rattle.meinberg_gps.specs.Gps.{clockOf, gpsFields, flagsText, lineOf
 use Rattle.meinberg_gps.specs.declared.GpsTime.{GpsTime}
 use Rattle.meinberg_gps.proofs.SignedLaws.{signed-size, sign-back}
 use Rattle.meinberg_gps.proofs.PositionLaws.{DigitsOf, position-digits}
-use Rattle.meinberg_gps.proofs.AlignedBackLaws.{value-append, aligned-back, four-after}
+use Rattle.decimal.proofs.DecimalLaws.{valueFrom-append}
+use Rattle.meinberg_gps.proofs.AlignedBackLaws.{aligned-back, four-after}
 
 -- ---- the offset
 abbrev offsetBytes : List ℕ → List ℕ
@@ -59,7 +60,7 @@ angle-back a s long d r =
     let j = suc i in
     let k = suc j in
     let f = four-after whole (getD s i 0) (getD s j 0) (getD s k 0) (getD s (suc k) 0) (d .after) in
-    let size : angleSize a s ≡ _ = value-append 0 (wholePart a s) (decimals a s) in
+    let size : angleSize a s ≡ _ = valueFrom-append 0 (wholePart a s) (decimals a s) in
     let front = rw long at (aligned-back (wholePart a s) (d .whole)) in
     rw (sign-back (code (a .above)) (code (a .below)) (a .limit) (hemisphere a s) (angleSize a s) r)
     (rw (signed-size (eqb (hemisphere a s) (code (a .below))) (angleSize a s), size, f .before, f .after, front))

@@ -1,7 +1,5 @@
 -- Laws of the definitions, and the main results.
-pub mod PlacesLaws
 pub mod SignedLaws
-pub mod DigitLaws
 pub mod AlignedLaws
 pub mod AlignedBackLaws
 pub mod OffsetLaws

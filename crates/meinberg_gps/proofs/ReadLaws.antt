@@ -8,9 +8,7 @@ use Rattle.clock_time.specs.declared.ClockTime.{ClockTime}
 use Rattle.clock_time.specs.declared.Position.{Position}
 use Rattle.layout.specs.Layout.{FitsLayout}
 use Rattle.layout.specs.Text.{clockChecks}
-use Rattle.layout.specs.declared.LayoutCheck.the-variants.{Fits}
-use Rattle.layout.proofs.LayoutLaws.{fits-check}
-use Rattle.layout.proofs.TextLaws.{laterChecks, read-after}
+use Rattle.layout.proofs.TextLaws.{laterChecks, read-fitting}
 use Rattle.meinberg_gps.specs.Position.{positionFault, positionOf, readPosition}
 use Rattle.meinberg_gps.specs.Gps.{gpsLayout, offsetFault, leapMismatch, clockOf, readClock}
 use Rattle.meinberg_gps.specs.Gps.{gpsFields, gps, readGps}
@@ -46,7 +44,7 @@ read-clock s p h = rw h (checked-placed p (clockChecks (clockOf s) (leapMismatch
 module _ {s : List ℕ} (fit : FitsLayout gpsLayout s) where
   read-fits : readGps s ≡ checked (laterChecks gps s) (gpsFields s)
   unfolding readGps gps
-  read-fits = read-after gps s Fits (fits-check fit)
+  read-fits = read-fitting gps s fit
 
   pub read-offset : offsetFault s ≡ true → readGps s ≡ refused 8
   unfolding gps

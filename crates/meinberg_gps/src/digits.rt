@@ -2,28 +2,19 @@
 ghost use mathlib.Core.Path.{_≡_};
 ghost use mathlib.Core.Bool.{true};
 ghost use mathlib.Core.List.{[], _∷_};
-ghost use Prim.Native.Nat.{_+_, _≤_};
-ghost use lib.ListN.{length};
-ghost use Rattle.layout.specs.Layout.{run, number};
-ghost use Rattle.decimal.specs.Decimal.{isDigit, value};
+ghost use Rattle.decimal.specs.Decimal.{value};
 ghost use Rattle.meinberg_gps.specs.Aligned.{areDigits, rightAligned, digitsOrBlanks};
-
-fn is_digit(b: u8) -> bool
-    ensures { λ r. ⌜ r ≡ isDigit b ⌝ }
-{
-    (48 <= b) & (b <= 57)
-}
 
 pub(crate) fn four_digits(a: u8, b: u8, c: u8, d: u8) -> bool
     ensures { λ r. ⌜ r ≡ areDigits (a ∷ b ∷ c ∷ d ∷ []) ⌝ }
 {
-    is_digit(a) & (is_digit(b) & (is_digit(c) & is_digit(d)))
+    decimal::is_digit(a) & (decimal::is_digit(b) & (decimal::is_digit(c) & decimal::is_digit(d)))
 }
 
 pub(crate) fn two_aligned(a: u8, b: u8) -> bool
     ensures { λ r. ⌜ r ≡ rightAligned (a ∷ b ∷ []) ⌝ }
 {
-    let last = is_digit(b);
+    let last = decimal::is_digit(b);
     (a == b' ') & last | (49 <= a) & (a <= 57) & last
 }
 
@@ -31,7 +22,7 @@ pub(crate) fn three_aligned(a: u8, b: u8, c: u8) -> bool
     ensures { λ r. ⌜ r ≡ rightAligned (a ∷ b ∷ c ∷ []) ⌝ }
 {
     let rest = two_aligned(b, c);
-    let digits = is_digit(b) & is_digit(c);
+    let digits = decimal::is_digit(b) & decimal::is_digit(c);
     (a == b' ') & rest | (49 <= a) & (a <= 57) & digits
 }
 
@@ -39,24 +30,8 @@ pub(crate) fn four_aligned(a: u8, b: u8, c: u8, d: u8) -> bool
     ensures { λ r. ⌜ r ≡ rightAligned (a ∷ b ∷ c ∷ d ∷ []) ⌝ }
 {
     let rest = three_aligned(b, c, d);
-    let digits = is_digit(b) & (is_digit(c) & is_digit(d));
+    let digits = decimal::is_digit(b) & (decimal::is_digit(c) & decimal::is_digit(d));
     (a == b' ') & rest | (49 <= a) & (a <= 57) & digits
-}
-
-// The number of the digit at a place.
-pub(crate) fn digit_at(s: &[u8], at: usize) -> u8
-    requires { ⌜ (at + 1 ≤ length (now s)) × (areDigits (run at 1 (now s)) ≡ true) ⌝ }
-    ensures { λ r. ⌜ r ≡ number 1 at (now (s .entry)) ⌝ }
-{
-    s[at] - 48
-}
-
-// The number of the two digits from a place on.
-pub(crate) fn pair_at(s: &[u8], at: usize) -> u8
-    requires { ⌜ (at + 2 ≤ length (now s)) × (areDigits (run at 2 (now s)) ≡ true) ⌝ }
-    ensures { λ r. ⌜ r ≡ number 2 at (now (s .entry)) ⌝ }
-{
-    10 * (s[at] - 48) + (s[at + 1] - 48)
 }
 
 // The numbers of digits with blanks among them: the low half of a digit's byte is its number, that of a blank is 0.

@@ -4,8 +4,8 @@ use clock_time::ClockTime;
 use clock_time::Error;
 use clock_time::Position;
 use clock_time::WriteAnswer;
-use layout::LayoutCheck;
 use layout::ReadAnswer;
+use layout::words;
 ghost use mathlib.Core.Path.{_≡_};
 ghost use lib.ListN.{length};
 ghost use Rattle.clock_time.specs.Writing.{outcome};
@@ -39,14 +39,16 @@ fn clock(s: &[u8]) -> ClockTime
     requires { ⌜ (length (now s) ≡ 66) × FitsLayout gpsLayout (now s) ⌝ }
     ensures { λ r. ⌜ r ≡ clockOf (now (s .entry)) ⌝ }
 {
+    let date = words::numbers_at(s, 1);
+    let time = words::numbers_at(s, 14);
     ClockTime {
-        year: calendar::date::full_year(digits::pair_at(s, 7)),
-        month: digits::pair_at(s, 4),
-        day: digits::pair_at(s, 1),
-        weekday: digits::digit_at(s, 11),
-        hour: digits::pair_at(s, 14),
-        minute: digits::pair_at(s, 17),
-        second: digits::pair_at(s, 20),
+        year: calendar::date::full_year(date.third),
+        month: date.second,
+        day: date.first,
+        weekday: s[11] % 16,
+        hour: time.first,
+        minute: time.second,
+        second: time.third,
         utc_offset: offset::read(s),
         unsynchronised: s[32] == b'#',
         unverified: s[33] == b'*',
@@ -62,7 +64,8 @@ fn mismatch(s: &[u8]) -> bool
     requires { ⌜ (length (now s) ≡ 66) × FitsLayout gpsLayout (now s) ⌝ }
     ensures { λ r. ⌜ r ≡ leapMismatch (now (s .entry)) ⌝ }
 {
-    (s[38] == b'L') != (digits::pair_at(s, 20) == 60)
+    let time = words::numbers_at(s, 14);
+    (s[38] == b'L') != (time.third == 60)
 }
 
 // Reads the clock time of a string whose offset and `position` hold, or the first of 5, 6 and 7 that holds.
@@ -98,10 +101,13 @@ fn read_fitting(s: &[u8]) -> GpsAnswer
 pub fn read_gps(s: &[u8]) -> GpsAnswer
     ensures { λ r. ⌜ gpsAnswer r ≡ readGps (now (s .entry)) ⌝ }
 {
-    match places::check(s) {
-        LayoutCheck::Offends(e, _) => GpsAnswer::Refused(e),
-        LayoutCheck::Fits => read_fitting(s),
+    if s.len() != 66 {
+        return GpsAnswer::Refused(table::first_error(s));
     }
+    if places::fits(s) {
+        return read_fitting(s);
+    }
+    GpsAnswer::Refused(table::first_error(s))
 }
 
 fn same_gps(a: GpsTime, b: GpsTime) -> bool

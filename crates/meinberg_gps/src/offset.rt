@@ -1,6 +1,6 @@
 // The UTC offset of a GPS string.
-use crate::digits;
 use crate::signed;
+use layout::words;
 ghost use mathlib.Core.Path.{_≡_};
 ghost use lib.ListN.{length};
 ghost use Rattle.layout.specs.Layout.{FitsLayout};
@@ -10,7 +10,8 @@ fn size(s: &[u8]) -> u32
     requires { ⌜ (length (now s) ≡ 66) × FitsLayout gpsLayout (now s) ⌝ }
     ensures { λ r. ⌜ r ≡ offsetSize (now (s .entry)) ⌝ }
 {
-    60 * (digits::pair_at(s, 25) as u32) + digits::pair_at(s, 28) as u32
+    let numbers = words::numbers_at(s, 25);
+    60 * (numbers.first as u32) + numbers.second as u32
 }
 
 // Whether the offset breaks a rule.
@@ -18,8 +19,8 @@ pub(crate) fn is_faulty(s: &[u8]) -> bool
     requires { ⌜ (length (now s) ≡ 66) × FitsLayout gpsLayout (now s) ⌝ }
     ensures { λ r. ⌜ r ≡ offsetFault (now (s .entry)) ⌝ }
 {
-    let minutes = digits::pair_at(s, 28);
-    !((minutes <= 59) & signed::sign_holds(b'+', b'-', 840, s[24], size(s)))
+    let numbers = words::numbers_at(s, 25);
+    !((numbers.second <= 59) & signed::sign_holds(b'+', b'-', 840, s[24], size(s)))
 }
 
 pub(crate) fn read(s: &[u8]) -> i16

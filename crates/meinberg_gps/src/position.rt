@@ -5,9 +5,12 @@ use clock_time::Error;
 use clock_time::Position;
 ghost use mathlib.Core.Path.{_≡_};
 ghost use mathlib.Core.Bool.{true};
+ghost use mathlib.Core.List.{[], _∷_};
 ghost use Prim.Native.Nat.{_≤_};
 ghost use lib.ListN.{length};
 ghost use Rattle.layout.specs.Layout.{number};
+ghost use Rattle.decimal.specs.Decimal.{valueFrom};
+ghost use Rattle.meinberg_gps.specs.Aligned.{digitsOrBlanks};
 ghost use Rattle.meinberg_gps.specs.Signed.{signed};
 ghost use Rattle.meinberg_gps.specs.Position.{latitude, longitude, angleSize, positionDigits};
 ghost use Rattle.meinberg_gps.specs.Position.{readPosition, positionAnswer};
@@ -30,18 +33,32 @@ fn digits_hold(s: &[u8]) -> bool
     latitude & longitude & digits::four_aligned(s[60], s[61], s[62], s[63])
 }
 
+// A whole number with four decimals, without the point.
+fn with_decimals(whole: u32, a: u8, b: u8, c: u8, d: u8) -> u32
+    requires { ⌜ (whole ≤ 999) × (digitsOrBlanks (a ∷ b ∷ c ∷ d ∷ []) ≡ true) ⌝ }
+    ensures { λ r. ⌜ r ≡ valueFrom whole (a ∷ b ∷ c ∷ d ∷ []) ⌝ }
+{
+    10000 * whole + digits::four(a, b, c, d)
+}
+
 fn latitude_size(s: &[u8]) -> u32
     requires { ⌜ (length (now s) ≡ 66) × (positionDigits (now s) ≡ true) ⌝ }
     ensures { λ r. ⌜ r ≡ angleSize latitude (now (s .entry)) ⌝ }
 {
-    10000 * digits::two(s[41], s[42]) + digits::four(s[44], s[45], s[46], s[47])
+    with_decimals(digits::two(s[41], s[42]), s[44], s[45], s[46], s[47])
 }
 
 fn longitude_size(s: &[u8]) -> u32
     requires { ⌜ (length (now s) ≡ 66) × (positionDigits (now s) ≡ true) ⌝ }
     ensures { λ r. ⌜ r ≡ angleSize longitude (now (s .entry)) ⌝ }
 {
-    10000 * digits::three(s[50], s[51], s[52]) + digits::four(s[54], s[55], s[56], s[57])
+    with_decimals(
+        digits::three(s[50], s[51], s[52]),
+        s[54],
+        s[55],
+        s[56],
+        s[57],
+    )
 }
 
 fn height(s: &[u8]) -> u16

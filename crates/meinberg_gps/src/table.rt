@@ -1,7 +1,8 @@
-// The first place of a GPS string that offends, by its layout.
-use layout::LayoutCheck;
+// The error of a GPS string that does not fit its layout.
+use clock_time::Error;
 ghost use mathlib.Core.Path.{_≡_};
-ghost use Rattle.layout.specs.Layout.{checkLayout, layoutFault};
+ghost use Rattle.clock_time.specs.Errors.{errorNumber};
+ghost use Rattle.layout.specs.Layout.{layoutError};
 ghost use Rattle.meinberg_gps.specs.Gps.{gpsLayout};
 
 // The layout, as the definition `gpsLayout` has it: a byte, a digit, any byte, or a flag with its letter.
@@ -80,8 +81,8 @@ const GPS: [u32; 66] = [
     3,
 ];
 
-pub(crate) fn first_error(s: &[u8]) -> LayoutCheck
-    ensures { λ r. ⌜ layoutFault r ≡ checkLayout gpsLayout (now (s .entry)) ⌝ }
+pub(crate) fn first_error(s: &[u8]) -> Error
+    ensures { λ r. ⌜ errorNumber r ≡ layoutError gpsLayout (now (s .entry)) ⌝ }
 {
-    layout::check_layout(&GPS, s)
+    layout::layout_error(&GPS, s)
 }

@@ -72,18 +72,17 @@ fn fits(s: &[u8]) -> bool
     requires { ⌜ length (now s) ≡ 32 ⌝ }
     ensures { λ r. ⌜ r ≡ fitsFrom true 0 pzfLayout (now (s .entry)) ⌝ }
 {
-    let flags = ((s[24] == b' ') | (s[24] == b'U'))
+    words::eight_fit(s, 0, 2, b'0', b'0', b'.', b'0', b'0', b'.', b'0')
+        & words::eight_fit(s, 8, b'0', b';', b' ', b'0', b';', b' ', b'0', b'0')
+        & words::eight_fit(s, 16, b':', b'0', b'0', b':', b'0', b'0', b';', b' ')
+        & ((s[24] == b' ') | (s[24] == b'U'))
         & ((s[25] == b' ') | (s[25] == b'#'))
         & ((s[26] == b' ') | (s[26] == b'*'))
         & ((s[27] == b' ') | (s[27] == b'S'))
         & ((s[28] == b' ') | (s[28] == b'!'))
         & ((s[29] == b' ') | (s[29] == b'A'))
-        & ((s[30] == b' ') | (s[30] == b'R'));
-    let places = words::eight_fit(s, 0, 2, b'0', b'0', b'.', b'0', b'0', b'.', b'0')
-        & words::eight_fit(s, 8, b'0', b';', b' ', b'0', b';', b' ', b'0', b'0')
-        & words::eight_fit(s, 16, b':', b'0', b'0', b':', b'0', b'0', b';', b' ')
-        & words::eight_fit(s, 24, 0, 0, 0, 0, 0, 0, 0, 3);
-    places & flags
+        & ((s[30] == b' ') | (s[30] == b'R'))
+        & (s[31] == 3)
 }
 
 // The error of a string that does not fit.

@@ -66,15 +66,17 @@ fn fits(s: &[u8]) -> bool
     requires { ⌜ length (now s) ≡ 32 ⌝ }
     ensures { λ r. ⌜ r ≡ fitsFrom true 0 standardLayout (now (s .entry)) ⌝ }
 {
-    let flags = ((s[27] == b' ') | (s[27] == b'#'))
-        & ((s[28] == b' ') | (s[28] == b'*'))
-        & ((s[29] == b' ') | (s[29] == b'U') | (s[29] == b'S'))
-        & ((s[30] == b' ') | (s[30] == b'!') | (s[30] == b'A'));
-    let places = words::eight_fit(s, 0, 2, b'D', b':', b'0', b'0', b'.', b'0', b'0')
+    words::eight_fit(s, 0, 2, b'D', b':', b'0', b'0', b'.', b'0', b'0')
         & words::eight_fit(s, 8, b'.', b'0', b'0', b';', b'T', b':', b'0', b';')
         & words::eight_fit(s, 16, b'U', b':', b'0', b'0', b'.', b'0', b'0', b'.')
-        & words::eight_fit(s, 24, b'0', b'0', b';', 0, 0, 0, 0, 3);
-    places & flags
+        & ((48 <= s[24]) & (s[24] <= 57))
+        & ((48 <= s[25]) & (s[25] <= 57))
+        & (s[26] == b';')
+        & ((s[27] == b' ') | (s[27] == b'#'))
+        & ((s[28] == b' ') | (s[28] == b'*'))
+        & ((s[29] == b' ') | (s[29] == b'U') | (s[29] == b'S'))
+        & ((s[30] == b' ') | (s[30] == b'!') | (s[30] == b'A'))
+        & (s[31] == 3)
 }
 
 // The error of a string that does not fit.

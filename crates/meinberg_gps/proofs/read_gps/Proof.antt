@@ -1,32 +1,38 @@
 -- `meinberg_gps::read_gps` meets its contract. Assumes nothing.
 use borrow.Author.Needs.{needs}
-use mathlib.Core.Path.{sym}
+use mathlib.Core.Path.{sym, _∙_}
 use Rattle.layout.specs.Ascii.{ascii}
-use Rattle.layout.proofs.LayoutLaws.{check-fits}
-use Rattle.layout.proofs.TextLaws.{read-after}
+use Rattle.layout.proofs.LayoutLaws.{tested-fits, unfit}
+use Rattle.layout.proofs.TextLaws.{read-unfitting}
 use Rattle.meinberg_gps.specs.Gps.{gpsLayout, gps, readGps}
 use Rattle.meinberg_gps.proofs.read_gps.Statement.{statement}
 use Rattle.meinberg_gps.proofs.read_gps.Tie as tie
 
+returns : tie.Need-returns
+unfolding readGps gps gpsLayout ascii
+returns c = read-unfitting gps _ (c .first-error .ensures) (λ h. c .before .if1 .taken (sym (h .long)))
+
 read-fitting-requires : tie.Need-read-fitting-requires
 unfolding gpsLayout ascii
 read-fitting-requires c κs =
-    let fit = check-fits gpsLayout _ (rw (c .enum-told .given .1) at (c .before .before .check .ensures)) in
-    (sym (fit .long), fit)
+    let f = c .before in
+    let long = f .before .if1 .left in
+    (long, tested-fits gpsLayout _ (sym long) (sym (f .fits2 .ensures) ∙ c .if2 .taken))
 
-returns : tie.Need-returns
+returns-3 : tie.Need-returns-3
 unfolding readGps gps
-returns c =
-    let k = c .before .before .before in
-    sym (rw (c .before .e .given .1) at (read-after gps _ (k .check .result) (k .check .ensures)))
+returns-3 c =
+    let f = c .before .before in
+    read-unfitting gps _ (c .first-error2 .ensures) (unfit (sym (f .fits2 .ensures) ∙ c .before .if2 .left))
 
 pub read-gps-spec : {M : Type 1} → statement M
 read-gps-spec =
     tie.close
     (tie.spec
     (λ c κs. search needs)
-    (λ c. search needs)
-    (λ c. search needs)
-    read-fitting-requires
     returns
-    (λ c. search needs))
+    (λ c κs. search needs)
+    read-fitting-requires
+    (λ c. search needs)
+    (λ c κs. search needs)
+    returns-3)

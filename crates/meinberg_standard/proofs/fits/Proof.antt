@@ -1,16 +1,17 @@
--- `meinberg_standard::fits` meets its contract: it is the layout's own test, eight places at once, with the flags by
--- themselves. Assumes nothing.
+-- `meinberg_standard::fits` meets its contract: it is the layout's own test, eight places at once. Assumes nothing.
 use borrow.Author.Needs.{needs}
 use native.Mathlib.Omega.{arith}
 use Prim.Native.Nat.{_+_, _≤_}
 use mathlib.Core.Path.{_≡_, _∙_}
+use mathlib.Core.Bool.{true}
+use mathlib.Core.List.{[], _∷_}
 use denote.Ref.{now}
 use lib.ListN.{length}
 use Rattle.decimal.specs.Decimal.{isDigit}
 use Rattle.layout.specs.Ascii.{ascii}
-use Rattle.layout.specs.Layout.{allowed, fitsFrom}
+use Rattle.layout.specs.Layout.{allowed, fitsFrom, run}
 use Rattle.layout.specs.Words.{samplePlace}
-use Rattle.layout.proofs.PartLaws.{fits-parts}
+use Rattle.layout.proofs.PartLaws.{parts-fit}
 use Rattle.layout.proofs.WordLaws.{sample-fits}
 use Rattle.meinberg_standard.specs.Standard.{standardLayout}
 use Rattle.meinberg_standard.proofs.fits.Statement.{statement}
@@ -19,36 +20,42 @@ use Rattle.meinberg_standard.proofs.fits.Tie as tie
 returns : tie.Need-returns
 unfolding fitsFrom allowed isDigit ascii standardLayout samplePlace
 returns c =
-    let e = c .before in
+    let x = c .before .before .before .before .before .before .before .before .before .before .before .before in
+    let d = x .before .before .before .before in
+    let e = d .before in
     let f = e .before in
-    let g = f .before in
-    let start = g .before .before .before .before .before .before .before .before .before .before .before .before in
+    let start = f .before .before in
     let s = now (start .args .s) in
     let long : length s ≡ 32 = start .pre in
-    simp (
-      c .eight-fit4 .ensures ∙ sample-fits 24 _ s (omega arith),
-      e .eight-fit3 .ensures ∙ sample-fits 16 _ s (omega arith),
-      f .eight-fit2 .ensures ∙ sample-fits 8 _ s (omega arith),
-      g .eight-fit .ensures ∙ sample-fits 0 _ s (omega arith),
-    )
-    (fits-parts 4 standardLayout s)
+    let part3 : d .eight-fit3 .result ≡ fitsFrom true 16 (run 16 8 standardLayout) s =
+    d .eight-fit3 .ensures ∙ sample-fits 16 _ s (omega arith) in
+    let part2 : e .eight-fit2 .result ≡ fitsFrom true 8 (run 8 8 standardLayout) s =
+    e .eight-fit2 .ensures ∙ sample-fits 8 _ s (omega arith) in
+    let part1 : f .eight-fit .result ≡ fitsFrom true 0 (run 0 8 standardLayout) s =
+    f .eight-fit .ensures ∙ sample-fits 0 _ s (omega arith) in
+    rw (part3, part2, part1) (parts-fit (8 ∷ 8 ∷ 8 ∷ []) true 0 standardLayout s)
 
 pub fits-spec : {M : Type 1} → statement M
 fits-spec =
     tie.close
     (tie.spec
-    (λ c. search needs)
-    (λ c. search needs)
-    (λ c. search needs)
-    (λ c. search needs)
-    (λ c. search needs)
-    (λ c. search needs)
-    (λ c. search needs)
-    (λ c. search needs)
-    (λ c. search needs)
-    (λ c. search needs)
     (λ c κs. search needs)
     (λ c κs. search needs)
     (λ c κs. search needs)
-    (λ c κs. search needs)
+    (λ c. search needs)
+    (λ c. search needs)
+    (λ c. search needs)
+    (λ c. search needs)
+    (λ c. search needs)
+    (λ c. search needs)
+    (λ c. search needs)
+    (λ c. search needs)
+    (λ c. search needs)
+    (λ c. search needs)
+    (λ c. search needs)
+    (λ c. search needs)
+    (λ c. search needs)
+    (λ c. search needs)
+    (λ c. search needs)
+    (λ c. search needs)
     returns)

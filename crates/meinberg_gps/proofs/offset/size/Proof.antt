@@ -1,29 +1,26 @@
 -- `meinberg_gps::offset::size` meets its contract. Assumes nothing.
 use borrow.Author.Needs.{needs}
-use lib.Dec.{lit≤}
 use mathlib.Core.Path.{refl}
+use lib.Dec.{lit≤}
 use Rattle.layout.specs.Ascii.{ascii}
+use Rattle.layout.proofs.PairLaws.{numbers-two}
 use Rattle.meinberg_gps.specs.Gps.{gpsLayout}
-use Rattle.meinberg_gps.proofs.DigitLaws.{digits-stand}
 use Rattle.meinberg_gps.proofs.offset.size.Statement.{statement}
 use Rattle.meinberg_gps.proofs.offset.size.Tie as tie
 
-pair-at-requires : tie.Need-pair-at-requires
+returns : tie.Need-returns
 unfolding gpsLayout ascii
-pair-at-requires c κs = digits-stand (c .before .pre .1) 2 25 (lit≤ tt) refl
-
-pair-at-requires-2 : tie.Need-pair-at-requires-2
-unfolding gpsLayout ascii
-pair-at-requires-2 c κs = digits-stand (c .before .before .pre .1) 2 28 (lit≤ tt) refl
+returns c =
+    let n = c .before .before in
+    simp (n .numbers-at .ensures, numbers-two (n .before .before .pre .1) 25 (lit≤ tt) refl refl)
 
 pub size-spec : {M : Type 1} → statement M
 size-spec =
     tie.close
     (tie.spec
-    pair-at-requires
+    (λ c κs. search needs)
     (λ c. search needs)
     (λ c. search needs)
-    pair-at-requires-2
     (λ c. search needs)
     (λ c. search needs)
-    (λ c. search needs))
+    returns)

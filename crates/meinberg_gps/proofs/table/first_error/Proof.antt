@@ -7,7 +7,7 @@ use Rattle.meinberg_gps.proofs.table.first_error.Tie as tie
 
 returns : tie.Need-returns
 unfolding ascii gpsLayout
-returns c = c .check-layout .ensures
+returns c = c .layout-error .ensures
 
 pub first-error-spec : {M : Type 1} → statement M
 first-error-spec =

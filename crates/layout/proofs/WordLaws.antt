@@ -13,8 +13,22 @@ use borrow.Author.Tests.{eq-eqb, ne-eqb, eqb-true, eqb-false, le-leb, lt-leb, lt
 use Rattle.clock_time.proofs.Tests.{both}
 use Rattle.decimal.specs.Decimal.{isDigit}
 use Rattle.layout.specs.Layout.{digit, free, allowed, fitsFrom, run}
-use Rattle.layout.specs.Words.{word, enough, samplePlace, samplePlaces, sampleFits, maskOf, sixOf, masks, sixes}
+use Rattle.layout.specs.Words.{word, enough, samplePlace, samplePlaces, sampleFits}
+use Rattle.layout.specs.Words.{bySample, eachBySample}
 use Rattle.layout.proofs.PartLaws.{fits-and}
+
+-- the bits that a byte of a sample settles, and what takes a byte above the digits out of their half
+abbrev maskOf : ℕ → ℕ
+maskOf p = bySample 240 0 255 p
+
+abbrev sixOf : ℕ → ℕ
+sixOf p = bySample 6 0 0 p
+
+abbrev pub masks : List ℕ → List ℕ
+masks ps = eachBySample 240 0 255 ps
+
+abbrev pub sixes : List ℕ → List ℕ
+sixes ps = eachBySample 6 0 0 ps
 
 -- each number is a byte
 abbrev pub Bytes : List ℕ → Type 0
@@ -72,7 +86,7 @@ digit-again b h k = elim (decLt 57 b) [
 ]
 
 agrees : (p b : ℕ) → p < 256 → b < 256 → bitAnd b (maskOf p) ≡ p → Agrees p b
-unfolding maskOf sixOf samplePlace allowed isDigit
+unfolding bySample samplePlace allowed isDigit
 agrees p b hp hb e = go (eqb p 48) (eqb p 0) refl refl
   where
     go : (t u : Bool) → eqb p 48 ≡ t → eqb p 0 ≡ u → Agrees p b
@@ -88,7 +102,7 @@ agrees p b hp hb e = go (eqb p 48) (eqb p 0) refl refl
         let z : p ≡ 0 = eqb-true p 0 r in
         let small : b + 0 < 256 = omega arith in
         record {
-          small = rw q small;
+          small = rw (q, r) small;
           again = rw (q, r) (ap (λ (n : ℕ). eqb n p) (and-zero-r (b + 0)) ∙ eq-eqb 0 p (sym z));
         }
     go false false q r =
@@ -96,13 +110,13 @@ agrees p b hp hb e = go (eqb p 48) (eqb p 0) refl refl
         let zero : b + 0 ≡ b = omega arith in
         let byte : b % 256 ≡ b = omega arith in
         record {
-          small = rw q small;
+          small = rw (q, r) small;
           again = rw (q, r, zero, low-byte, byte, lt-ltb p 256 hp);
         }
 
 -- a byte that may stand there agrees
 allowed-agrees : (p b : ℕ) → p < 256 → b < 256 → allowed (samplePlace p) b ≡ true → bitAnd b (maskOf p) ≡ p
-unfolding maskOf samplePlace allowed isDigit
+unfolding bySample samplePlace allowed isDigit
 allowed-agrees p b hp hb = go (eqb p 48) (eqb p 0) refl refl
   where
     go : (t u : Bool) → eqb p 48 ≡ t → eqb p 0 ≡ u → allowed (samplePlace p) b ≡ true → bitAnd b (maskOf p) ≡ p
@@ -151,7 +165,7 @@ eq-digits x y r s hr hs = elim (ℕ-discrete r s) [
 ]
 
 mask-small : (p : ℕ) → maskOf p < 256
-unfolding maskOf
+unfolding bySample
 mask-small p = go (eqb p 48) (eqb p 0)
   where
     go : (t u : Bool) → cond {A = ℕ} t 240 (cond u 0 255) < 256

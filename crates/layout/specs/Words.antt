@@ -29,20 +29,14 @@ samplePlaces (p ∷ ps) = samplePlace p ∷ samplePlaces ps
 unfoldable pub sampleFits : ℕ → List ℕ → List ℕ → Bool
 sampleFits at sample s = fitsFrom true at (samplePlaces sample) (enough at s)
 
--- the bits that a byte of a sample settles, and what takes a byte above the digits out of their half
-unfoldable pub maskOf : ℕ → ℕ
-maskOf p = cond (eqb p 48) 240 (cond (eqb p 0) 0 255)
+-- a number for a byte of a sample: for a digit, for any byte, or for a byte that stands for itself
+unfoldable pub bySample : ℕ → ℕ → ℕ → ℕ → ℕ
+bySample forDigit forAny forFixed p = cond (eqb p 48) forDigit (cond (eqb p 0) forAny forFixed)
 
-unfoldable pub sixOf : ℕ → ℕ
-sixOf p = cond (eqb p 48) 6 0
-
-abbrev pub masks : List ℕ → List ℕ
-masks [] = []
-masks (p ∷ ps) = maskOf p ∷ masks ps
-
-abbrev pub sixes : List ℕ → List ℕ
-sixes [] = []
-sixes (p ∷ ps) = sixOf p ∷ sixes ps
+abbrev pub eachBySample : ℕ → ℕ → ℕ → List ℕ → List ℕ
+eachBySample forDigit forAny forFixed [] = []
+eachBySample forDigit forAny forFixed (p ∷ ps) =
+    bySample forDigit forAny forFixed p ∷ eachBySample forDigit forAny forFixed ps
 
 -- the number of two bytes by their low halves: those of digits are their numbers
 unfoldable pub lowPair : ℕ → List ℕ → ℕ

@@ -2,7 +2,7 @@
 ghost use mathlib.Core.Path.{_≡_};
 ghost use mathlib.Core.List.{[], _∷_};
 ghost use Rattle.layout.specs.Layout.{run};
-ghost use Rattle.layout.specs.Words.{word, enough, sampleFits, maskOf, sixOf, masks, sixes, numbersAt};
+ghost use Rattle.layout.specs.Words.{word, enough, sampleFits, bySample, eachBySample, numbersAt};
 
 // The numbers of three pairs of digits: of a date, of a time.
 pub struct ThreeNumbers {
@@ -46,54 +46,43 @@ fn word_at(s: &[u8], at: usize) -> u64
     )
 }
 
-fn mask_of(p: u8) -> u8
-    ensures { λ r. ⌜ r ≡ maskOf p ⌝ }
+fn by_sample(p: u8, digit: u8, any: u8, fixed: u8) -> u8
+    ensures { λ r. ⌜ r ≡ bySample digit any fixed p ⌝ }
 {
     if p == 48 {
-        return 240;
+        return digit;
     }
     if p == 0 {
-        return 0;
+        return any;
     }
-    255
+    fixed
 }
 
-fn six_of(p: u8) -> u8
-    ensures { λ r. ⌜ r ≡ sixOf p ⌝ }
-{
-    if p == 48 {
-        return 6;
-    }
-    0
-}
-
-fn join_masks(a: u8, b: u8, c: u8, d: u8, e: u8, f: u8, g: u8, h: u8) -> u64
-    ensures { λ r. ⌜ r ≡ word (masks (a ∷ b ∷ c ∷ d ∷ e ∷ f ∷ g ∷ h ∷ [])) ⌝ }
+// A byte for each of a sample's: of a digit, of any byte, and of a fixed one.
+fn join_by_sample(
+    a: u8,
+    b: u8,
+    c: u8,
+    d: u8,
+    e: u8,
+    f: u8,
+    g: u8,
+    h: u8,
+    digit: u8,
+    any: u8,
+    fixed: u8,
+) -> u64
+    ensures { λ r. ⌜ r ≡ word (eachBySample digit any fixed (a ∷ b ∷ c ∷ d ∷ e ∷ f ∷ g ∷ h ∷ [])) ⌝ }
 {
     join(
-        mask_of(a),
-        mask_of(b),
-        mask_of(c),
-        mask_of(d),
-        mask_of(e),
-        mask_of(f),
-        mask_of(g),
-        mask_of(h),
-    )
-}
-
-fn join_sixes(a: u8, b: u8, c: u8, d: u8, e: u8, f: u8, g: u8, h: u8) -> u64
-    ensures { λ r. ⌜ r ≡ word (sixes (a ∷ b ∷ c ∷ d ∷ e ∷ f ∷ g ∷ h ∷ [])) ⌝ }
-{
-    join(
-        six_of(a),
-        six_of(b),
-        six_of(c),
-        six_of(d),
-        six_of(e),
-        six_of(f),
-        six_of(g),
-        six_of(h),
+        by_sample(a, digit, any, fixed),
+        by_sample(b, digit, any, fixed),
+        by_sample(c, digit, any, fixed),
+        by_sample(d, digit, any, fixed),
+        by_sample(e, digit, any, fixed),
+        by_sample(f, digit, any, fixed),
+        by_sample(g, digit, any, fixed),
+        by_sample(h, digit, any, fixed),
     )
 }
 
@@ -115,8 +104,8 @@ pub fn eight_fit(
 {
     let bytes = word_at(s, at);
     let sample = join(a, b, c, d, e, f, g, h);
-    let mask = join_masks(a, b, c, d, e, f, g, h);
-    let six = join_sixes(a, b, c, d, e, f, g, h);
+    let mask = join_by_sample(a, b, c, d, e, f, g, h, 240, 0, 255);
+    let six = join_by_sample(a, b, c, d, e, f, g, h, 6, 0, 0);
     let more = std::num::wrapping_add_u64(bytes, six);
     (bytes & mask == sample) & (more & mask == sample)
 }

@@ -20,8 +20,7 @@ use Rattle.time_string.specs.declared.TimeAnswer.{TimeAnswer}
 use Rattle.time_string.specs.declared.TimeAnswer.the-variants as times
 
 -- "66 long is GPS; 32 long is standard if place 1 holds `D`, else PZF; 21 long is ELV; any other length is refused with
--- 1."
--- (01, Meinberg and ELV strings)
+-- 1." (01, Meinberg and ELV strings)
 unfoldable pub kindOf : List ℕ → Answer Kind
 kindOf s =
     cond (eqb (length s) 66) (accepted Gps)

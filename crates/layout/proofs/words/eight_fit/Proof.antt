@@ -30,8 +30,8 @@ returns c =
     let a = known .before .args in
     simp (
       c .wrapping-add-u64 .ensures,
-      six .join-sixes .ensures,
-      mask .join-masks .ensures,
+      six .join-by-sample2 .ensures,
+      mask .join-by-sample .ensures,
       text .join .ensures,
       bytes .word-at .ensures,
     )

@@ -1,8 +1,8 @@
--- `layout::words::join_masks` meets its contract. Assumes nothing.
+-- `layout::words::join_by_sample` meets its contract. Assumes nothing.
 use borrow.Author.Needs.{needs}
 use mathlib.Core.Path.{_∙_}
-use Rattle.layout.proofs.words.join_masks.Statement.{statement}
-use Rattle.layout.proofs.words.join_masks.Tie as tie
+use Rattle.layout.proofs.words.join_by_sample.Statement.{statement}
+use Rattle.layout.proofs.words.join_by_sample.Tie as tie
 
 returns : tie.Need-returns
 returns c =
@@ -16,18 +16,18 @@ returns c =
     let x1 = x2 .before in
     c .join .ensures
     ∙ simp (
-      x8 .mask-of8 .ensures,
-      x7 .mask-of7 .ensures,
-      x6 .mask-of6 .ensures,
-      x5 .mask-of5 .ensures,
-      x4 .mask-of4 .ensures,
-      x3 .mask-of3 .ensures,
-      x2 .mask-of2 .ensures,
-      x1 .mask-of .ensures,
+      x8 .by-sample8 .ensures,
+      x7 .by-sample7 .ensures,
+      x6 .by-sample6 .ensures,
+      x5 .by-sample5 .ensures,
+      x4 .by-sample4 .ensures,
+      x3 .by-sample3 .ensures,
+      x2 .by-sample2 .ensures,
+      x1 .by-sample .ensures,
     )
 
-pub join-masks-spec : {M : Type 1} → statement M
-join-masks-spec =
+pub join-by-sample-spec : {M : Type 1} → statement M
+join-by-sample-spec =
     tie.close
     (tie.spec
     (λ c κs. search needs)

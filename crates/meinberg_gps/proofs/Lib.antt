@@ -8,4 +8,3 @@ pub mod ReadLaws
 pub mod TextLaws
 pub mod BackLaws
 pub mod Theorems
-pub mod Examples

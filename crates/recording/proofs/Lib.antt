@@ -1,4 +1,4 @@
--- Laws of recordings, the theorems, and the examples.
+-- Laws of recordings, and the main results.
 pub mod GapLaws
 pub mod OutcomeLaws
 pub mod RuleLaws
@@ -6,4 +6,3 @@ pub mod FillLaws
 pub mod RecordingLaws
 pub mod DemandLaws
 pub mod Theorems
-pub mod Examples

@@ -12,6 +12,7 @@ import sys
 from datetime import date, datetime, timedelta
 
 import minute_vectors
+import recording_vectors
 import string_vectors
 
 NOT_UNDERSTOOD = "?"
@@ -331,7 +332,8 @@ def main():
     check_against_document()
     string_vectors.check_against_document()
     minute_vectors.check_against_document()
-    named = (*string_vectors.SECTIONS, *minute_vectors.SECTIONS)
+    recording_vectors.check_against_document()
+    named = (*string_vectors.SECTIONS, *minute_vectors.SECTIONS, *recording_vectors.SECTIONS)
     for section in (*SECTIONS, *map(with_heading, named)):
         for row in section():
             if isinstance(row, str):

@@ -105,6 +105,10 @@ impl Fields {
         (self.value(i) % 65536) as u16
     }
 
+    pub fn u32_at(self, i: usize) -> u32 {
+        (self.value(i) % 4294967296) as u32
+    }
+
     pub fn u64_at(self, i: usize) -> u64 {
         self.value(i)
     }

@@ -1,6 +1,7 @@
 // Runs a table of commands: writes each line of standard input with what the library answers. Headings, which start
 // with `#`, and empty lines are only copied.
 mod dates;
+mod day;
 mod digits;
 mod errors;
 mod fields;
@@ -9,7 +10,9 @@ mod lines;
 mod marks;
 mod minutes;
 mod numbers;
+mod outcomes;
 mod output;
+mod recordings;
 mod strings;
 mod text;
 mod times;
@@ -32,7 +35,8 @@ fn answer(line: &[u8], out: &mut Buffer, at: usize) -> usize {
     n = times::answer(line, out, n);
     n = strings::answer(line, out, n);
     n = written::answer(line, out, n);
-    minutes::answer(line, out, n)
+    n = minutes::answer(line, out, n);
+    recordings::answer(line, out, n)
 }
 
 // Puts the answer to a line, a question mark where it is no command.

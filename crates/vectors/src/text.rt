@@ -17,6 +17,14 @@ pub fn first(s: &[u8], n: usize) -> &[u8] {
     &s[0..n]
 }
 
+// The bytes of s from `at` on, or all where they are fewer.
+pub fn rest(s: &[u8], at: usize) -> &[u8] {
+    if s.len() < at {
+        return s;
+    }
+    &s[at..]
+}
+
 fn nibble(b: u8) -> u8 {
     if b < b'0' {
         return 0;

@@ -1,0 +1,72 @@
+-- Laws of whole calls of `list`. Assumes nothing.
+use Prim.Native.Nat.{ℕ, _+_, _-_, _≤_, _<_}
+use native.Mathlib.Omega.{arith}
+use mathlib.Core.Path.{_≡_, refl, sym, ap, _∙_}
+use mathlib.Core.List.{List, [], _∷_, _++_}
+use lib.ListN.{length, take, drop, length-append}
+use lib.Seq.{take-append-seam, take-length}
+use Rattle.framing.specs.Feed.{feedOf}
+use Rattle.framing.specs.Framed.{Finds, Drops}
+use Rattle.listing.specs.declared.Listing.{Listing}
+use Rattle.listing.specs.Items.{string, overlong, readString, itemOf, itemLine}
+use Rattle.listing.specs.Listing.{itemAt, stepListing, after, textOf, takenOf, listOf}
+use Rattle.listing.specs.Calls.{taken, text, Calls, none, call}
+use Rattle.listing.proofs.ListingLaws.{after-append, text-append, taken-on, agrees}
+
+pub record Whole (l : Listing) (input shown : List ℕ) (end : Listing) : Type 0 where
+  pub text : shown ≡ textOf l input
+  pub state : end ≡ after l input
+
+module _ (l : Listing) (s buffer : List ℕ) where
+  pub call-text : text (listOf l s buffer) ≡ textOf l (taken s (listOf l s buffer))
+  unfolding listOf
+  call-text = take-append-seam (textOf l (take (takenOf l s (length buffer)) s)) _
+
+  pub call-state : listOf l s buffer .listing ≡ after l (taken s (listOf l s buffer))
+  unfolding listOf
+  call-state = refl
+
+pub whole : {l : Listing} {input shown : List ℕ} {end : Listing} → Calls l input shown end → Whole l input shown end
+unfolding textOf after
+whole none = record { text = refl; state = refl }
+whole {l} (call s buffer {input} {shown} {end} rest) =
+    let w = whole rest in
+    let n = taken s (listOf l s buffer) in
+    record {
+      text =
+          ap (λ (x : List ℕ). x ++ shown) (call-text l s buffer)
+          ∙ ap (λ (x : List ℕ). textOf l n ++ x)
+          (w .text ∙ ap (λ (x : Listing). textOf x input) (call-state l s buffer))
+          ∙ sym (text-append l n input);
+      state =
+          w .state
+          ∙ ap (λ (x : Listing). after x input) (call-state l s buffer)
+          ∙ sym (after-append l n input);
+    }
+
+pub taken-some : (l : Listing) (s : List ℕ) (room : ℕ) → 35 ≤ room → 0 < length s → 0 < takenOf l s room
+taken-some l [] room h q = absurd (omega arith)
+taken-some l (b ∷ s) room h q = omega (arith, taken-on l b s room h)
+
+pub taken-all : (l : Listing) (s : List ℕ) (room : ℕ) → length (textOf l s) + 35 ≤ room → takenOf l s room ≡ length s
+unfolding textOf takenOf
+taken-all l [] room h = refl
+taken-all l (b ∷ s) room h =
+    let line = itemLine (itemAt l b) in
+    let size = length-append line (textOf (stepListing l b) s) in
+    let ih = taken-all (stepListing l b) s (room - length line) (omega (arith, size)) in
+    taken-on l b s room (omega arith) ∙ rw ih
+
+-- ---- a string as the feed finds it, from any state
+module _ (l : Listing) (frame : List ℕ) where
+  whole-text : feedOf (l .framer) frame .taken ≡ length frame
+      → textOf l frame
+      ≡ itemLine (itemOf (feedOf (l .framer) frame .framer .bytes) (feedOf (l .framer) frame .answer))
+  whole-text e =
+      ap (textOf l) (sym (take-length frame) ∙ ap (λ (n : ℕ). take n frame) (sym e)) ∙ agrees frame l .text
+
+  pub found-text : Finds frame (feedOf (l .framer) frame) → textOf l frame ≡ itemLine (string (readString frame))
+  found-text f = whole-text (f .taken) ∙ rw (f .answer, f .kept)
+
+  pub dropped-text : (n : ℕ) → n ≡ length frame → Drops n (feedOf (l .framer) frame) → textOf l frame ≡ itemLine overlong
+  dropped-text n e f = whole-text (f .taken ∙ e) ∙ rw (f .answer)

@@ -1,0 +1,86 @@
+-- `listing::Listing::list` meets its contract. The loop's invariant: the text of the bytes before i stands at the front
+-- of the buffer, and the listing goes on from there. The measure is what is left of the slice. Assumes nothing.
+use Prim.Native.Nat.{_≤_, _-_}
+use native.Mathlib.Omega.{arith}
+use borrow.Author.Needs.{needs}
+use lib.ListN.{length}
+use Rattle.listing.proofs.WrittenLaws.{Written, written-none, written-some, written-within, written-fits}
+use Rattle.listing.proofs.WrittenLaws.{written-more, written-end, written-full}
+use Rattle.listing.proofs.Listing.list.Statement.{statement}
+use Rattle.listing.proofs.Listing.list.Tie as tie
+
+abbrev Inv-loop : tie.InvT-loop
+Inv-loop s out₀ listing₀ at₀ i₀ out listing at i = Written listing₀ s out₀ i at listing out
+
+abbrev μ-loop : tie.MeasureT-loop
+μ-loop s out₀ listing₀ at₀ i₀ out listing at i = length s - i
+
+sub-if1 : tie.Need-sub-if1 Inv-loop μ-loop
+sub-if1 c = omega (arith, c .before .loop .inv .fits, c .before .loop .inv .same)
+
+put-requires : tie.Need-put-requires Inv-loop μ-loop
+put-requires c κs =
+    let d = c .before .before .before in
+    let t = d .before .before in
+    let s = t .before .before .before .before .before .args .s .now in (
+      written-fits _ s _ _ _ _ _ (t .before .before .loop .inv) _ (t .before .loop-test .taken) (t .if1 .left) (d .tell .ensures),
+      d .tell .ensures .fits,
+      d .tell .ensures .short,
+    )
+
+add-at : tie.Need-add-at Inv-loop μ-loop
+add-at c =
+    let d = c .before .before .before .before .before .before .before in
+    let t = d .before .before in
+    let s = t .before .before .before .before .before .args .s .now in
+    omega (arith, written-fits _ s _ _ _ _ _ (t .before .before .loop .inv) _ (t .before .loop-test .taken) (t .if1 .left) (d .tell .ensures))
+
+add-i : tie.Need-add-i Inv-loop μ-loop
+add-i c =
+    let d = c .before .before .before .before .before .before .before .before in
+    let t = d .before .before in
+    let s = t .before .before .before .before .before .args .s .now in
+    omega (arith, written-within _ s _ _ _ _ _ (t .before .before .loop .inv) _ (t .before .loop-test .taken) (t .if1 .left) (d .tell .ensures))
+
+loop-less : tie.Need-loop-less Inv-loop μ-loop
+loop-less c =
+    let d = c .before .before .before .before .before .before .before .before in
+    let t = d .before .before in
+    let s = t .before .before .before .before .before .args .s .now in
+    omega (arith, written-some _ s _ _ _ _ _ (t .before .before .loop .inv) _ (t .before .loop-test .taken) (t .if1 .left) (d .tell .ensures))
+
+loop-again : tie.Need-loop-again Inv-loop μ-loop
+loop-again c =
+    let d = c .before .before .before .before .before .before .before .before in
+    let t = d .before .before in
+    let s = t .before .before .before .before .before .args .s .now in
+    rw (c .before .before .before .before .put .ensures)
+    (written-more _ s _ _ _ _ _ (t .before .before .loop .inv) _ (t .before .loop-test .taken) (t .if1 .left) (d .tell .ensures))
+
+returns : tie.Need-returns Inv-loop μ-loop
+returns c = written-full _ _ _ _ _ _ _ (c .before .before .loop .inv) (c .if1 .taken)
+
+returns-2 : tie.Need-returns-2 Inv-loop μ-loop
+returns-2 c = written-end _ _ _ _ _ _ _ (c .before .loop .inv) (c .loop-test .left)
+
+pub list-spec : {M : Type 1} → statement M
+list-spec =
+    tie.close
+    (tie.spec
+    Inv-loop
+    μ-loop
+    (λ c. written-none _ _ _)
+    sub-if1
+    (λ c. c .before .before .loop .inv .same)
+    returns
+    (λ c. omega arith)
+    (λ c. search needs)
+    (λ c. search needs)
+    (λ c κs. search needs)
+    put-requires
+    add-at
+    add-i
+    loop-less
+    loop-again
+    (λ c. c .before .loop .inv .same)
+    returns-2)

@@ -1,0 +1,10 @@
+-- `listing::Listing::new` meets its contract. Assumes nothing.
+use borrow.Author.Needs.{needs}
+use Rattle.listing.proofs.Listing.new.Statement.{statement}
+use Rattle.listing.proofs.Listing.new.Tie as tie
+
+returns : tie.Need-returns
+returns c = simp (c .new .ensures)
+
+pub new-spec : {M : Type 1} → statement M
+new-spec = tie.close (tie.spec (λ c κs. search needs) returns)

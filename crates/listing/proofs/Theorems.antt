@@ -1,0 +1,44 @@
+-- The main results of the listing. Assumes nothing.
+use Prim.Native.Nat.{ℕ, _+_, _≤_, _<_}
+use native.Mathlib.Omega.{arith}
+use mathlib.Core.Path.{_≡_}
+use mathlib.Core.Bool.{true}
+use mathlib.Core.List.{List, [], _∷_, _++_}
+use lib.ListN.{length, length-append}
+use Rattle.framing.specs.Framed.{allPlain}
+use Rattle.framing.proofs.Theorems as framing
+use Rattle.listing.specs.declared.Listing.{Listing}
+use Rattle.listing.specs.Items.{string, overlong, readString, itemLine}
+use Rattle.listing.specs.Listing.{after, textOf, listOf}
+use Rattle.listing.specs.Calls.{Calls}
+use Rattle.listing.proofs.CallsLaws.{Whole, whole, taken-some, taken-all, found-text, dropped-text}
+
+-- how the input is cut does not matter: calls on any slices and with any buffers show the text of the bytes that they
+-- take, and leave the state and so the totals that are those of the whole
+pub cuts-do-not-matter : {l : Listing} {input shown : List ℕ} {end : Listing} → Calls l input shown end
+    → (shown ≡ textOf l input) × (end ≡ after l input)
+cuts-do-not-matter calls = (whole calls .text, whole calls .state)
+
+-- a call with room for any line takes something where there is something
+pub list-takes-some : (l : Listing) (s buffer : List ℕ) → 35 ≤ length buffer → 0 < length s
+    → 0 < listOf l s buffer .taken
+unfolding listOf
+list-takes-some l s buffer = taken-some l s (length buffer)
+
+-- and everything where a line more than the text would fit
+pub list-takes-all : (l : Listing) (s buffer : List ℕ) → length (textOf l s) + 35 ≤ length buffer
+    → listOf l s buffer .taken ≡ length s
+unfolding listOf
+list-takes-all l s buffer = taken-all l s (length buffer)
+
+module _ (l : Listing) (body : List ℕ) (size : length (l .framer .bytes) ≡ 66) (plain : allPlain body ≡ true) where
+  -- every string of up to 66 bytes has its own line, whatever came before
+  pub string-listed : length body + 2 ≤ 66
+      → textOf l (2 ∷ body ++ 3 ∷ []) ≡ itemLine (string (readString (2 ∷ body ++ 3 ∷ [])))
+  string-listed few = found-text l (2 ∷ body ++ 3 ∷ []) (framing.string-found (l .framer) body [] size plain few)
+
+  -- and every longer one is dropped
+  pub overlong-listed : 66 < length body + 2 → textOf l (2 ∷ body ++ 3 ∷ []) ≡ itemLine overlong
+  overlong-listed many =
+      dropped-text l (2 ∷ body ++ 3 ∷ []) (length body + 2) (simp length-append (omega arith))
+      (framing.overlong-dropped (l .framer) body [] size plain many)

@@ -1,0 +1,59 @@
+-- A feed over all of s, read, counted and with its line, is what the listing tells of s. Assumes nothing.
+use Prim.Native.Nat.{ℕ, _≤_, _<_}
+use native.Mathlib.Omega.{arith}
+use mathlib.Core.Path.{_≡_, refl, sym, ap, _∙_}
+use mathlib.Core.List.{List}
+use lib.ListN.{length, take, drop}
+use lib.Seq.{take-length, length-take-le}
+use Rattle.framing.specs.Step.{FeedAnswer, nothingYet, complete, dropped}
+use Rattle.framing.specs.Feed.{Feeding, fed, feedOf}
+use Rattle.framing.specs.declared.Fed.{Fed}
+use Rattle.framing.proofs.StepsLaws.{feed-taken, feed-few}
+use Rattle.listing.specs.declared.Listing.{Listing}
+use Rattle.listing.specs.declared.Totals.{Totals}
+use Rattle.listing.specs.declared.entry.Line.{Line}
+use Rattle.listing.specs.Items.{Item, Within, itemOf, itemLine, Shows, counted}
+use Rattle.listing.specs.Told.{Tells}
+use Rattle.listing.proofs.ListingLaws.{Agrees, agrees}
+
+within-few : (a : FeedAnswer) (bytes : List ℕ) → length bytes ≡ 66 → ((n : ℕ) → a ≡ complete n → n ≤ 66) → Within a bytes
+within-few nothingYet bytes size few = tt
+within-few (complete n) bytes size few = let h : n ≤ 66 = few n refl in omega arith
+within-few dropped bytes size few = tt
+
+module _ (l : Listing) (s : List ℕ) (r : Fed) (e : fed r ≡ feedOf (l .framer) (take (length s) s)) where
+  whole : fed r ≡ feedOf (l .framer) s
+  whole = rw take-length at e
+
+  -- a complete string is no longer than the bytes of the state
+  pub told-within : length (r .framer .bytes) ≡ 66 → Within (fed r .answer) (r .framer .bytes)
+  told-within size =
+      within-few (fed r .answer) (r .framer .bytes) size
+      (λ n q. feed-few (l .framer) s n (sym (ap (λ (f : Feeding). f .answer) whole) ∙ q))
+
+  told-agrees : Agrees l s (fed r)
+  told-agrees = rw whole (agrees s l)
+
+  pub tells : (i : Item) → i ≡ itemOf (r .framer .bytes) (fed r .answer) → (totals : Totals) → totals ≡ counted (l .totals) i
+      → (line : Line) → Shows line i
+      → Tells l s (record { listing = record { framer = r .framer; totals = totals }; line = line; taken = r .taken })
+  tells i q totals t line shows =
+      record {
+        within = rw taken (feed-taken (l .framer) s (length s) .0);
+        some = λ h. rw taken (feed-taken (l .framer) s (length s) .1 h h);
+        short = shows .short;
+        fits = shows .fits;
+        text = shows .line ∙ ap itemLine q ∙ sym (told-agrees .text);
+        state = listing ∙ sym (told-agrees .state);
+        goes = λ room h. rw (listing, size) (told-agrees .goes room h);
+      }
+    where
+      taken : r .taken ≡ feedOf (l .framer) (take (length s) s) .taken
+      taken = ap (λ (f : Feeding). f .taken) e
+
+      listing : _≡_ {A = Listing} (record { framer = r .framer; totals = totals })
+          (record { framer = r .framer; totals = counted (l .totals) (itemOf (r .framer .bytes) (fed r .answer)) })
+      listing = rw (t, q)
+
+      size : line .length ≡ length (itemLine (itemOf (r .framer .bytes) (fed r .answer)))
+      size = sym (length-take-le (line .length) (line .text) (shows .fits)) ∙ ap length (shows .line ∙ ap itemLine q)

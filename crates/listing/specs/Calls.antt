@@ -1,0 +1,21 @@
+-- Calls of `list` one after another, of which the theorems speak. Assumes nothing.
+use Prim.Native.Nat.{ℕ}
+use mathlib.Core.List.{List, [], _++_}
+use lib.ListN.{take}
+use Rattle.listing.specs.declared.Listing.{Listing}
+use Rattle.listing.specs.Listing.{Outcome, listOf}
+
+-- the bytes that a call takes of s, and the text that it puts to the front of its buffer
+abbrev pub taken : List ℕ → Outcome → List ℕ
+taken s r = take (r .taken) s
+
+abbrev pub text : Outcome → List ℕ
+text r = take (r .length) (r .buffer)
+
+-- from the state l, calls on any slices and with any buffers take the bytes `input`, put the bytes `shown` to the fronts
+-- of their buffers, and leave the state `end`
+pub data Calls : Listing → List ℕ → List ℕ → Listing → Type 0 where
+  none : {l : Listing} → Calls l [] [] l
+  call : {l : Listing} (s buffer : List ℕ) {input shown : List ℕ} {end : Listing}
+      → Calls (listOf l s buffer .listing) input shown end
+      → Calls l (taken s (listOf l s buffer) ++ input) (text (listOf l s buffer) ++ shown) end

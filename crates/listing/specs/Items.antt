@@ -1,0 +1,98 @@
+-- What the listing says of each string: its line, or why there is none. Assumes nothing.
+use Prim.Native.Nat.{ℕ, zero, suc, _+_, _/_, _%_, _^_, _≤_}
+use mathlib.Core.Path.{_≡_}
+use mathlib.Core.Bool.{cond}
+use mathlib.Core.List.{List, [], _∷_, _++_}
+use lib.Dec.{ltb}
+use lib.ListN.{length, take}
+use Rattle.clock_time.specs.Errors.{Answer, accepted, refused, errorNumber}
+use Rattle.clock_time.specs.declared.ClockTime.{ClockTime}
+use Rattle.layout.specs.Ascii.{ascii}
+use Rattle.time_string.specs.declared.Kind.{Kind}
+use Rattle.time_string.specs.Kind.{Reading, time, timeAndPosition, kindOf, readAs}
+use Rattle.framing.specs.Step.{FeedAnswer, nothingYet, complete, dropped}
+use Rattle.listing.specs.Line.{lineOf}
+use Rattle.listing.specs.declared.Totals.{Totals}
+use Rattle.listing.specs.declared.entry.Entry.{Entry}
+use Rattle.listing.specs.declared.entry.Entry.the-variants as entries
+use Rattle.listing.specs.declared.entry.Line.{Line}
+
+-- ---- reading a string
+-- the listing shows no position
+abbrev pub clockOf : Reading → ClockTime
+clockOf (time t) = t
+clockOf (timeAndPosition g) = g .time
+
+abbrev pub clockAnswer : Answer Reading → Answer ClockTime
+clockAnswer (accepted r) = accepted (clockOf r)
+clockAnswer (refused k) = refused k
+
+abbrev pub readTold : List ℕ → Answer Kind → Answer ClockTime
+readTold s (accepted kind) = clockAnswer (readAs kind s)
+readTold s (refused k) = refused k
+
+-- "A separate question tells the kind from the bytes" (01, Meinberg and ELV strings): a string is read as the kind that
+-- is told, so one of 21 bytes as ELV
+unfoldable pub readString : List ℕ → Answer ClockTime
+readString s = readTold s (kindOf s)
+
+-- ---- what a byte brings to the listing: nothing, a string as it was read, or an overlong string dropped
+pub data Item : Type 0 where
+  nothing : Item
+  string : Answer ClockTime → Item
+  overlong : Item
+
+-- "a complete string of n bytes [..] the state's first n bytes are then the string" (01, The serial feed)
+abbrev pub itemOf : List ℕ → FeedAnswer → Item
+itemOf bytes nothingYet = nothing
+itemOf bytes (complete n) = string (readString (take n bytes))
+itemOf bytes dropped = overlong
+
+-- a complete string is not longer than the bytes of the state
+abbrev pub Within : FeedAnswer → List ℕ → Type 0
+Within nothingYet bytes = Unit {0}
+Within (complete n) bytes = n ≤ length bytes
+Within dropped bytes = Unit {0}
+
+abbrev pub entryItem : Entry → Item
+entryItem entries.Nothing = nothing
+entryItem (entries.Read t) = string (accepted t)
+entryItem (entries.Refused e) = string (refused (errorNumber e))
+entryItem entries.Dropped = overlong
+
+-- ---- lines
+-- a number of at most k + 1 digits in decimal, with no zero in front
+unfoldable pub numeralWithin : ℕ → ℕ → List ℕ
+numeralWithin zero n = (48 + n % 10) ∷ []
+numeralWithin (suc k) n = cond (ltb n 10) ((48 + n % 10) ∷ []) (numeralWithin k (n / 10) ++ ((48 + n % 10) ∷ []))
+
+-- a number of 64 bits in decimal, which has at most 20 digits
+abbrev pub numeral : ℕ → List ℕ
+numeral n = numeralWithin 19 n
+
+-- "refused 6", "A dropped string writes `dropped`", "each line ended by LF" (01, Examples)
+unfoldable pub itemLine : Item → List ℕ
+itemLine nothing = []
+itemLine (string (accepted t)) = lineOf t
+itemLine (string (refused k)) = ascii "refused " ++ numeral k ++ ascii "\n"
+itemLine overlong = ascii "dropped\n"
+
+-- the first `length` bytes of a text are an item's line
+pub record Shows (r : Line) (i : Item) : Type 0 where
+  pub short : r .length ≤ 35
+  pub fits : r .length ≤ length (r .text)
+  pub line : take (r .length) (r .text) ≡ itemLine i
+
+-- ---- totals
+-- a count of 64 bits
+abbrev pub oneMore : ℕ → ℕ
+oneMore n = (n + 1) % 2 ^ 64
+
+-- "frames counts complete strings" (01, Examples), `refused` those among them that were refused, and `dropped` the
+-- strings that were dropped
+unfoldable pub counted : Totals → Item → Totals
+counted t nothing = t
+counted t (string (accepted _)) = record { frames = oneMore (t .frames); refused = t .refused; dropped = t .dropped }
+counted t (string (refused _)) =
+    record { frames = oneMore (t .frames); refused = oneMore (t .refused); dropped = t .dropped }
+counted t overlong = record { frames = t .frames; refused = t .refused; dropped = oneMore (t .dropped) }

@@ -1,0 +1,124 @@
+// What is listed of a string: its reading, the line that says it, and how it counts.
+use crate::Totals;
+use crate::line;
+use clock_time::ClockTime;
+use clock_time::Error;
+use framing::Event;
+use time_string::KindAnswer;
+use time_string::TimeAnswer;
+ghost use mathlib.Core.Path.{_≡_};
+ghost use Prim.Native.Nat.{_<_};
+ghost use Rattle.clock_time.specs.Errors.{refused};
+ghost use Rattle.time_string.specs.Kind.{timeAnswer};
+ghost use Rattle.framing.specs.Step.{answerOf};
+ghost use Rattle.listing.specs.Items.{clockAnswer, readString, string, itemOf, Within, entryItem, Shows, counted};
+
+// What an event of the feed brings to the listing.
+pub(crate) enum Entry {
+    Nothing,
+    Read(ClockTime),
+    Refused(Error),
+    Dropped,
+}
+
+// A line of text, its line feed included: the first `length` bytes of `text`.
+pub(crate) struct Line {
+    pub(crate) text: [u8; 35],
+    pub(crate) length: usize,
+}
+
+fn entry_of(answer: TimeAnswer) -> Entry
+    ensures { λ r. ⌜ entryItem r ≡ string (clockAnswer (timeAnswer answer)) ⌝ }
+{
+    match answer {
+        TimeAnswer::Read(t) => Entry::Read(t),
+        TimeAnswer::ReadWithPosition(g) => {
+            let t = g.time;
+            Entry::Read(t)
+        }
+        TimeAnswer::Refused(e) => Entry::Refused(e),
+    }
+}
+
+// Reads a string as the kind that its bytes tell.
+fn read_string(s: &[u8]) -> Entry
+    ensures { λ r. ⌜ entryItem r ≡ string (readString (now (s .entry))) ⌝ }
+{
+    match time_string::kind_of(s) {
+        KindAnswer::Told(kind) => entry_of(time_string::read(kind, s)),
+        KindAnswer::Refused(e) => Entry::Refused(e),
+    }
+}
+
+// The entry of an event, where `bytes` are those of the state after it.
+pub(crate) fn entry_at(bytes: &[u8], event: Event) -> Entry
+    requires { ⌜ Within (answerOf event) (now bytes) ⌝ }
+    ensures { λ r. ⌜ entryItem r ≡ itemOf (now (bytes .entry)) (answerOf event) ⌝ }
+{
+    match event {
+        Event::Nothing => Entry::Nothing,
+        Event::Complete(n) => read_string(&bytes[..n]),
+        Event::Dropped => Entry::Dropped,
+    }
+}
+
+// The totals with one entry more.
+pub(crate) fn count(t: Totals, entry: Entry) -> Totals
+    ensures { λ r. ⌜ r ≡ counted t (entryItem entry) ⌝ }
+{
+    match entry {
+        Entry::Nothing => t,
+        Entry::Read(_) => Totals {
+            frames: std::num::wrapping_add_u64(t.frames, 1),
+            refused: t.refused,
+            dropped: t.dropped,
+        },
+        Entry::Refused(_) => Totals {
+            frames: std::num::wrapping_add_u64(t.frames, 1),
+            refused: std::num::wrapping_add_u64(t.refused, 1),
+            dropped: t.dropped,
+        },
+        Entry::Dropped => Totals {
+            frames: t.frames,
+            refused: t.refused,
+            dropped: std::num::wrapping_add_u64(t.dropped, 1),
+        },
+    }
+}
+
+fn refused_line(n: u8) -> Line
+    requires { ⌜ n < 100 ⌝ }
+    ensures { λ r. ⌜ Shows r (string (refused n)) ⌝ }
+{
+    let mut text = *b"refused \0\0\0\0\0\0\0\0\0\0\0\0\0\0\0\0\0\0\0\0\0\0\0\0\0\0\0";
+    if n < 10 {
+        text[8] = 48 + n;
+        text[9] = b'\n';
+        return Line { text, length: 10 };
+    }
+    text[8] = 48 + n / 10;
+    text[9] = 48 + n % 10;
+    text[10] = b'\n';
+    Line { text, length: 11 }
+}
+
+// The line of an entry, empty where there is nothing to say.
+pub(crate) fn line_of(entry: Entry) -> Line
+    ensures { λ r. ⌜ Shows r (entryItem entry) ⌝ }
+{
+    match entry {
+        Entry::Nothing => Line {
+            text: [0u8; 35],
+            length: 0,
+        },
+        Entry::Read(t) => Line {
+            text: line::line_of(t),
+            length: 35,
+        },
+        Entry::Refused(e) => refused_line(clock_time::error_number(e)),
+        Entry::Dropped => Line {
+            text: *b"dropped\n\0\0\0\0\0\0\0\0\0\0\0\0\0\0\0\0\0\0\0\0\0\0\0\0\0\0\0",
+            length: 8,
+        },
+    }
+}

@@ -1,15 +1,19 @@
 -- Laws of whole calls of `list`. Assumes nothing.
-use Prim.Native.Nat.{ℕ, _+_, _-_, _≤_, _<_}
+use Prim.Native.Nat.{ℕ, suc, _+_, _-_, _≤_, _<_}
 use native.Mathlib.Omega.{arith}
 use mathlib.Core.Path.{_≡_, refl, sym, ap, _∙_}
+use mathlib.Core.Bool.{Bool, true, false, cond}
 use mathlib.Core.List.{List, [], _∷_, _++_}
-use lib.ListN.{length, take, drop, length-append}
+use lib.Dec.{ltb}
+use lib.ListN.{length, take, drop, length-append, length-drop}
 use lib.Seq.{take-append-seam, take-length}
 use Rattle.framing.specs.Feed.{feedOf}
 use Rattle.framing.specs.Framed.{Finds, Drops}
+use Rattle.framing.proofs.FeedLaws.{rest}
 use Rattle.listing.specs.declared.Listing.{Listing}
+use Rattle.listing.specs.declared.Listed.{Listed}
 use Rattle.listing.specs.Items.{string, overlong, readString, itemOf, itemLine}
-use Rattle.listing.specs.Listing.{itemAt, stepListing, after, textOf, takenOf, listOf}
+use Rattle.listing.specs.Listing.{itemAt, stepListing, after, textOf, takenOf, Outcome, outcome, listOf}
 use Rattle.listing.specs.Calls.{taken, text, Calls, none, call}
 use Rattle.listing.proofs.ListingLaws.{after-append, text-append, taken-on, agrees}
 
@@ -56,6 +60,33 @@ taken-all l (b ∷ s) room h =
     let size = length-append line (textOf (stepListing l b) s) in
     let ih = taken-all (stepListing l b) s (room - length line) (omega (arith, size)) in
     taken-on l b s room (omega arith) ∙ rw ih
+
+cond-within : (t : Bool) {m n : ℕ} → m ≤ n → cond t 0 (suc m) ≤ suc n
+cond-within true h = omega arith
+cond-within false h = omega arith
+
+pub taken-within : (l : Listing) (s : List ℕ) (room : ℕ) → takenOf l s room ≤ length s
+unfolding takenOf
+taken-within l [] room = omega arith
+taken-within l (b ∷ s) room =
+    cond-within (ltb room 35) (taken-within (stepListing l b) s (room - length (itemLine (itemAt l b))))
+
+-- ---- for a loop over the rest of s, `&s[i..]`
+module _
+    (l : Listing) (s : List ℕ) (i : ℕ) (q : i < length s) (buffer out : List ℕ) (r : Listed)
+    (e : outcome r out ≡ listOf l (take (length s - i) (drop i s)) buffer)
+  where
+    part-taken : r .taken ≡ takenOf l (drop i s) (length buffer)
+    unfolding listOf
+    part-taken = ap (λ (o : Outcome). o .taken) (rw (rest s i) at e)
+
+    pub part-within : i + r .taken ≤ length s
+    part-within = omega (arith, part-taken, taken-within l (drop i s) (length buffer), length-drop i s)
+
+    pub part-falls : 35 ≤ length buffer → length s - (i + r .taken) < length s - i
+    part-falls h =
+        let some : 0 < length (drop i s) = omega (arith, length-drop i s) in
+        omega (arith, part-taken, taken-some l (drop i s) (length buffer) h some)
 
 -- ---- a string as the feed finds it, from any state
 module _ (l : Listing) (frame : List ℕ) where

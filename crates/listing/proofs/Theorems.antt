@@ -11,7 +11,7 @@ use Rattle.listing.specs.declared.Listing.{Listing}
 use Rattle.listing.specs.Items.{string, overlong, readString, itemLine}
 use Rattle.listing.specs.Listing.{after, textOf, listOf}
 use Rattle.listing.specs.Calls.{Calls}
-use Rattle.listing.proofs.CallsLaws.{Whole, whole, taken-some, taken-all, found-text, dropped-text}
+use Rattle.listing.proofs.CallsLaws.{Whole, whole, taken-within, taken-some, taken-all, found-text, dropped-text}
 
 -- how the input is cut does not matter: calls on any slices and with any buffers show the text of the bytes that they
 -- take, and leave the state and so the totals that are those of the whole
@@ -19,7 +19,12 @@ pub cuts-do-not-matter : {l : Listing} {input shown : List ℕ} {end : Listing} 
     → (shown ≡ textOf l input) × (end ≡ after l input)
 cuts-do-not-matter calls = (whole calls .text, whole calls .state)
 
--- a call with room for any line takes something where there is something
+-- a call takes no more than there is
+pub list-takes-within : (l : Listing) (s buffer : List ℕ) → listOf l s buffer .taken ≤ length s
+unfolding listOf
+list-takes-within l s buffer = taken-within l s (length buffer)
+
+-- with room for any line takes something where there is something
 pub list-takes-some : (l : Listing) (s buffer : List ℕ) → 35 ≤ length buffer → 0 < length s
     → 0 < listOf l s buffer .taken
 unfolding listOf

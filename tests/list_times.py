@@ -1,0 +1,317 @@
+#!/usr/bin/env python3
+"""Runs the listing program and compares what it writes with a listing in plain Python, made from document 01.
+
+Usage: list_times.py PROGRAM [CAPTURE]
+       list_times.py --capture > samples/capture.bin
+"""
+import os
+import pty
+import random
+import select
+import subprocess
+import sys
+import threading
+import tty
+
+import rules
+
+STX, ETX = 2, 3
+HEADING = b"time zone flags\n"
+SECONDS = 20  # longer than any run here takes
+
+
+# The listing, from 'The serial feed' and 'Examples'.
+
+
+def feed(data):
+    """The strings in data, None for an overlong one that was dropped."""
+    kept, state = b"", "outside"
+    for byte in data:
+        if byte == STX:
+            kept, state = bytes([STX]), "inside"
+        elif state == "inside" and len(kept) == 66:
+            state = "overlong"
+        elif state == "inside":
+            kept += bytes([byte])
+        if byte == ETX and state != "outside":
+            yield kept if state == "inside" else None
+            state = "outside"
+
+
+def read(string):
+    kind = rules.kind_of(string)
+    return rules.READERS[kind](string) if kind else (1, None)
+
+
+def time_line(r):
+    size = abs(r["offset"])
+    flags = zip(rules.FLAG_LETTERS + "L", [r[name] for name in rules.FLAG_NAMES] + [r["second"] == 60])
+    return (
+        f"{r['year']:04}-{r['month']:02}-{r['day']:02} {r['hour']:02}:{r['minute']:02}:{r['second']:02} "
+        f"{'-' if r['offset'] < 0 else '+'}{size // 60:02}:{size % 60:02} "
+        f"{''.join(letter if on else '-' for letter, on in flags)}"
+    )
+
+
+def lines(data):
+    """The line of each string, and the counts of frames, refused and dropped."""
+    text, frames, refused, dropped = [], 0, 0, 0
+    for string in feed(data):
+        if string is None:
+            dropped += 1
+            text.append("dropped")
+            continue
+        frames += 1
+        number, r = read(string)
+        refused += number != 0
+        text.append(f"refused {number}" if number else time_line(r))
+    return "".join(line + "\n" for line in text).encode(), (frames, refused, dropped)
+
+
+def totals_line(counts):
+    return "frames {} refused {} dropped {}\n".format(*counts).encode()
+
+
+def listing(data):
+    text, counts = lines(data)
+    return HEADING + text + totals_line(counts)
+
+
+# Inputs.
+
+STANDARD = b"\x02D:08.11.06;T:3;U:14.39.39;    \x03"
+PZF = b"\x0208.11.06; 3; 24:00:00; U      \x03"
+GPS = b"\x0209.07.93; 5; 08:48:26; +00:00;        ; 49.5736N  11.0280E  373m\x03"
+LEAP = b"\x0201.01.17; 7; 00:59:60; +01:00;     A L; 49.5736N  11.0280E  373m\x03"
+WEST = b"\x0229.02.00; 2; 23:59:59; -09:30; #*S! R ; 90.0000S 180.0000W    0m\x03"
+
+
+def changed(string, at, new):
+    return string[:at] + new + string[at + len(new) :]
+
+
+REFUSED = {
+    1: b"\x02too short\x03",
+    2: changed(GPS, 64, b"M"),
+    3: changed(STANDARD, 3, b"x"),
+    4: changed(GPS, 38, b"l"),
+    5: changed(STANDARD, 3, b"31"),
+    6: changed(GPS, 14, b"24"),
+    7: changed(STANDARD, 14, b"0"),
+    8: changed(GPS, 24, b"-"),
+    9: changed(WEST, 41, b"91"),
+}
+
+
+def framed(n):
+    """A string of n bytes, STX and ETX counted, that holds neither inside."""
+    return b"\x02" + b"x" * (n - 2) + b"\x03"
+
+
+def random_string(rng):
+    r = rules.reading(
+        rng.randint(1970, 2069), rng.randint(1, 12), rng.randint(1, 28), rng.randint(1, 7), rng.randint(0, 23),
+        rng.randint(0, 59), rng.randint(0, 59), 0, "".join(c for c in rules.FLAG_LETTERS if rng.random() < 0.3),
+    )
+    kind = rng.choice(["standard", "pzf", "gps"])
+    offset = rng.randint(-840, 840) if kind == "gps" else 120 if r["summer"] else rng.choice([0, 60])
+    position = dict(
+        latitude=rng.randint(-900000, 900000), longitude=rng.randint(-1800000, 1800000), height=rng.randint(0, 9999)
+    )
+    if kind == "standard" and r["change"]:
+        r["leap"] = False
+    return rules.TEXTS[kind](dict(r, offset=offset, **position)).encode()
+
+
+def random_stream(rng):
+    """Valid strings, strings with wrong bytes or a piece missing, overlong ones and noise."""
+    stream = b""
+    for _ in range(rng.randint(1, 60)):
+        piece = bytearray(random_string(rng))
+        kind = rng.random()
+        if kind < 0.3:
+            for _ in range(rng.randint(1, 3)):
+                piece[rng.randrange(len(piece))] = rng.choice(b"\x02\x03 0159:;.-+#*US!ARLNEWm\xff")
+        elif kind < 0.4:
+            at = rng.randrange(len(piece))
+            del piece[at : at + rng.randint(1, 40)]
+        elif kind < 0.5:
+            piece = bytearray(framed(rng.randint(2, 80)))
+        elif kind < 0.6:
+            piece = bytearray(rng.randrange(256) for _ in range(rng.randint(1, 90)))
+        stream += bytes(piece)
+    return stream
+
+
+def capture():
+    """The sample: all three Meinberg kinds, each refusal, noise, an overlong string and a leap second."""
+    noise = b"\r\n\x00\xfe garbled 08.11.06\x03"
+    summer = b"\x02D:25.03.07;T:7;U:01.59.59;#* !\x03\x02D:25.03.07;T:7;U:03.00.00;  S \x03"
+    return b"".join(
+        [noise, STANDARD, summer, changed(PZF, 14, b"14"), PZF, GPS, noise, framed(67), WEST]
+        + [string for _, string in sorted(REFUSED.items())]
+        + [changed(LEAP, 20, b"59")[:38] + b" " + LEAP[39:], LEAP, b"\x02D:08.11.06;T:3;U:14.", STANDARD, b"\x02D:08."]
+    )
+
+
+CASES = {
+    "document 01": STANDARD + PZF,
+    "empty": b"",
+    "noise only": bytes(b for b in range(256) if b != STX) * 300,
+    "no last ETX": STANDARD + GPS[:-1],
+    "STX inside a string": b"\x02D:08.11.06" + STANDARD + b"\x02\x02\x02" + GPS,
+    "ETX outside": b"\x03\x03" + STANDARD + b"\x03" + GPS + b"\x03",
+    "65, 66 and 67 kept": framed(65) + framed(66) + framed(67) + framed(68) + framed(2) + framed(1000),
+    "an overlong string cut by STX": framed(500)[:-1] + STANDARD,
+    "66 kept, then STX": framed(67)[:-1] + STANDARD,
+    "21 bytes": framed(21) + b"\x0206-11-08-14-39-39-0\x03",
+    "every other length": b"".join(framed(n) for n in range(2, 80)),
+    "every refusal": b"".join(REFUSED.values()),
+    "leap second": LEAP + changed(LEAP, 38, b" ") + changed(GPS, 38, b"L"),
+    "west": WEST,
+}
+
+
+# Runs.
+
+
+def expect(name, got, want):
+    if got != want:
+        sys.exit(f"{name}: wrote {got[-300:]!r}\nwhere it must write {want[-300:]!r}")
+
+
+def run(program, data):
+    return subprocess.run([program], input=data, capture_output=True, timeout=SECONDS)
+
+
+def compare(program, name, data):
+    done = run(program, data)
+    expect(name, done.stdout, listing(data))
+    expect(name + ", standard error", done.stderr, b"")
+
+
+def peak_memory(program, data):
+    """What the program writes, and its peak memory in kilobytes."""
+    child = subprocess.Popen([program], stdin=subprocess.PIPE, stdout=subprocess.PIPE)
+    feeder = threading.Thread(target=lambda: (child.stdin.write(data), child.stdin.close()))
+    feeder.start()
+    text = child.stdout.read()
+    feeder.join()
+    _, _, usage = os.wait4(child.pid, 0)
+    child.returncode = 0
+    return text, usage.ru_maxrss
+
+
+def large_input(program):
+    """10 MB: a block that ends outside a string, over and over; memory does not grow."""
+    rng = random.Random(10)
+    block = b"".join(random_stream(rng) for _ in range(40)) + framed(2)
+    times = 10_000_000 // len(block) + 1
+    text, counts = lines(block)
+    got, memory = peak_memory(program, block * times)
+    expect("10 MB", got, HEADING + text * times + totals_line(times * n for n in counts))
+    _, small = peak_memory(program, b"")
+    if memory > small + 512:
+        sys.exit(f"10 MB: {memory} kB of memory, {small} kB without input")
+
+
+def single_bytes(program):
+    """Reads of one byte each: a pipe of packets hands them out one by one."""
+    data = capture()
+    readable, writable = os.pipe2(os.O_DIRECT)
+    child = subprocess.Popen([program], stdin=readable, stdout=subprocess.PIPE)
+    os.close(readable)
+    for byte in data:
+        os.write(writable, bytes([byte]))
+    os.close(writable)
+    expect("single bytes", child.communicate(timeout=SECONDS)[0], listing(data))
+
+
+def read_until(stream, want, name):
+    got = b""
+    while got != want:
+        if not select.select([stream], [], [], SECONDS)[0]:
+            sys.exit(f"{name}: nothing came after {got!r}")
+        got += os.read(stream.fileno(), 4096)
+        if not want.startswith(got):
+            sys.exit(f"{name}: wrote {got!r}")
+
+
+def shown_at_once(program):
+    """A line stands on standard output as soon as its string has come, while the input goes on."""
+    child = subprocess.Popen([program], stdin=subprocess.PIPE, stdout=subprocess.PIPE, bufsize=0)
+    read_until(child.stdout, HEADING, "heading at once")
+    for string in (STANDARD, PZF, GPS):
+        child.stdin.write(string[:10])
+        child.stdin.write(string[10:])
+        read_until(child.stdout, lines(string)[0], "line at once")
+    child.stdin.close()
+    read_until(child.stdout, totals_line((3, 1, 0)), "totals at the end")
+    child.wait(SECONDS)
+
+
+def failing_write(program, name, open_output, message):
+    """Writing fails: the program says so and stops, though its input goes on."""
+    child = subprocess.Popen(
+        [program], stdin=subprocess.PIPE, stderr=subprocess.PIPE, preexec_fn=open_output, stdout=subprocess.DEVNULL
+    )
+    child.wait(SECONDS)
+    expect(name, child.stderr.read(), message)
+
+
+def closed_output():
+    os.close(1)
+
+
+def full_output():
+    os.dup2(os.open("/dev/full", os.O_WRONLY), 1)
+
+
+def unreadable_input(program):
+    """Reading fails at once: the message, and the totals."""
+    directory = os.open("/", os.O_RDONLY)
+    done = subprocess.run([program], stdin=directory, capture_output=True, timeout=SECONDS)
+    expect("a directory", done.stdout, listing(b""))
+    expect("a directory, standard error", done.stderr, b"standard input: Is a directory\n")
+
+
+def failing_read(program):
+    """Reading fails after some strings, as on a line that hangs up: they are listed, and counted."""
+    reader, line = pty.openpty()
+    tty.setraw(line)
+    child = subprocess.Popen([program], stdin=reader, stdout=subprocess.PIPE, stderr=subprocess.PIPE)
+    data = STANDARD + PZF
+    os.write(line, data)
+    read_until(child.stdout, HEADING + lines(data)[0], "before the failing read")
+    os.close(line)
+    out, err = child.communicate(timeout=SECONDS)
+    expect("failing read", out, totals_line((2, 1, 0)))
+    expect("failing read, standard error", err, b"standard input: Input/output error\n")
+
+
+def main(program, sample=None):
+    for name, data in CASES.items():
+        compare(program, name, data)
+    for seed in range(150):
+        compare(program, f"random stream {seed}", random_stream(random.Random(seed)))
+    if sample:
+        with open(sample, "rb") as file:
+            expect("sample", file.read(), capture())
+    compare(program, "sample", capture())
+    large_input(program)
+    single_bytes(program)
+    shown_at_once(program)
+    failing_write(program, "closed output", closed_output, b"standard output: Bad file descriptor\n")
+    failing_write(program, "full output", full_output, b"standard output: No space left on device\n")
+    unreadable_input(program)
+    failing_read(program)
+    print(f"list_times: {len(CASES) + 150} inputs, the sample, 10 MB, single bytes, a live line and 4 failures as they must be")
+
+
+if __name__ == "__main__":
+    if sys.argv[1:] == ["--capture"]:
+        sys.stdout.buffer.write(capture())
+    elif len(sys.argv) in (2, 3):
+        main(*sys.argv[1:])
+    else:
+        sys.exit(__doc__)

@@ -1,5 +1,6 @@
 // Lists the strings on standard input: a heading, a line for each string, and the totals. The lines of what has come
 // are written after each read. A failure to read or write is told on standard error.
+use clock_time::WriteAnswer;
 use libc::STDIN_FILENO;
 use libc::STDOUT_FILENO;
 use listing::Listing;
@@ -80,27 +81,12 @@ fn list_input(start: State) -> State {
     state
 }
 
-// Writes a label and a count.
-fn write_count(label: &[u8], n: u64) -> bool {
-    let mut digits = [0u8; 20];
-    let k = io::decimal(n, &mut digits);
-    if !write(label) {
-        return false;
-    }
-    write(&digits[..k])
-}
-
 fn write_totals(t: Totals) -> bool {
-    if !write_count(b"frames ", t.frames) {
-        return false;
+    let mut text = [0u8; 86];
+    match listing::write_totals(t, &mut text) {
+        WriteAnswer::Written(n) => write_start(&text, n),
+        WriteAnswer::Refused(_) => false,
     }
-    if !write_count(b" refused ", t.refused) {
-        return false;
-    }
-    if !write_count(b" dropped ", t.dropped) {
-        return false;
-    }
-    write(b"\n")
 }
 
 fn main() {

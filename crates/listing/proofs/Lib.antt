@@ -4,5 +4,7 @@ pub mod ItemsLaws
 pub mod ListingLaws
 pub mod ToldLaws
 pub mod WrittenLaws
+pub mod LastLineLaws
 pub mod CallsLaws
+pub mod Examples
 pub mod Theorems

@@ -3,4 +3,5 @@ pub mod Line
 pub mod Items
 pub mod Listing
 pub mod Told
+pub mod LastLine
 pub mod Calls

@@ -1,9 +1,10 @@
 -- The listing of a stream of bytes, byte by byte, so that it does not depend on how the stream is cut. Assumes nothing.
 use Prim.Native.Nat.{ℕ, suc, _-_}
-use mathlib.Core.Bool.{cond}
+use mathlib.Core.Bool.{true, cond}
 use mathlib.Core.List.{List, [], _∷_, _++_}
 use lib.Dec.{ltb}
 use lib.ListN.{length, take, drop}
+use Rattle.clock_time.specs.Writing as writing
 use Rattle.layout.specs.Ascii.{ascii}
 use Rattle.framing.specs.Step as feed
 use Rattle.framing.specs.Step.{Stepped, stepOf}
@@ -68,6 +69,10 @@ totalsLine t =
     ascii "frames " ++ numeral (t .frames)
     ++ ascii " refused " ++ numeral (t .refused)
     ++ ascii " dropped " ++ numeral (t .dropped) ++ ascii "\n"
+
+-- "20 [..] a buffer too short to write to" (01, Refusal numbers)
+unfoldable pub writeTotals : Totals → List ℕ → writing.Outcome
+writeTotals t buffer = writing.writing true (totalsLine t) buffer
 
 -- "The program [..] writes [..] `time zone flags`" (01, Examples), a line for each string, and the totals
 unfoldable pub listingOf : List ℕ → List ℕ

@@ -10,10 +10,12 @@ ghost use lib.Seq.{paste};
 ghost use Rattle.clock_time.specs.Writing as writing;
 ghost use Rattle.calendar.specs.UnixTime.{isValid};
 ghost use Rattle.listing.specs.Line.{writeLine};
-ghost use Rattle.listing.specs.Listing.{start, outcome, listOf};
+ghost use Rattle.listing.specs.Listing.{start, outcome, listOf, writeTotals};
 ghost use Rattle.listing.specs.Told.{Tells};
 
+mod copy;
 mod entry;
+mod last_line;
 mod line;
 mod offset;
 
@@ -64,18 +66,24 @@ pub fn write_line(t: ClockTime, out: &mut [u8]) -> WriteAnswer
     clock_time::write_bytes(is_valid(t), &text, out)
 }
 
+// Writes the line of the totals, its line feed included, to the front of `out`: 20 where there is no room for it.
+pub fn write_totals(t: Totals, out: &mut [u8]) -> WriteAnswer
+    ensures { λ r. ⌜ writing.outcome r (now (out .exit)) ≡ writeTotals t (now (out .entry)) ⌝ }
+{
+    let line = last_line::line_of(t);
+    let text = line.text;
+    let n = line.length;
+    clock_time::write_bytes(true, &text[..n], out)
+}
+
 // Puts the line into `out` from `at` on.
-fn put(out: &mut [u8], at: usize, line: Line)
-    requires { ⌜ (at + line .length ≤ length (now out)) × (line .length ≤ length (line .text)) × (line .length ≤ 35) ⌝ }
+fn put_line(out: &mut [u8], at: usize, line: Line)
+    requires { ⌜ (at + line .length ≤ length (now out)) × (line .length ≤ length (line .text)) ⌝ }
     ensures { λ _. ⌜ now (out .exit) ≡ paste (now (out .entry)) at (line .text) (line .length) ⌝ }
 {
     let text = line.text;
     let n = line.length;
-    let mut i = 0;
-    while i < n {
-        out[at + i] = text[i];
-        i += 1;
-    }
+    copy::put(out, at, &text[..n])
 }
 
 // Takes the bytes of s up to the first that ends a string.
@@ -132,7 +140,7 @@ impl Listing {
             let next = told.listing;
             listing = next;
             let line = told.line;
-            put(out, at, line);
+            put_line(out, at, line);
             at += line.length;
             i += told.taken;
         }

@@ -18,14 +18,13 @@ abbrev μ-loop : tie.MeasureT-loop
 sub-if1 : tie.Need-sub-if1 Inv-loop μ-loop
 sub-if1 c = omega (arith, c .before .loop .inv .fits, c .before .loop .inv .same)
 
-put-requires : tie.Need-put-requires Inv-loop μ-loop
-put-requires c κs =
+put-line-requires : tie.Need-put-line-requires Inv-loop μ-loop
+put-line-requires c κs =
     let d = c .before .before .before in
     let t = d .before .before in
     let s = t .before .before .before .before .before .args .s .now in (
       written-fits _ s _ _ _ _ _ (t .before .before .loop .inv) _ (t .before .loop-test .taken) (t .if1 .left) (d .tell .ensures),
       d .tell .ensures .fits,
-      d .tell .ensures .short,
     )
 
 add-at : tie.Need-add-at Inv-loop μ-loop
@@ -54,7 +53,7 @@ loop-again c =
     let d = c .before .before .before .before .before .before .before .before in
     let t = d .before .before in
     let s = t .before .before .before .before .before .args .s .now in
-    rw (c .before .before .before .before .put .ensures)
+    rw (c .before .before .before .before .put-line .ensures)
     (written-more _ s _ _ _ _ _ (t .before .before .loop .inv) _ (t .before .loop-test .taken) (t .if1 .left) (d .tell .ensures))
 
 returns : tie.Need-returns Inv-loop μ-loop
@@ -77,7 +76,7 @@ list-spec =
     (λ c. search needs)
     (λ c. search needs)
     (λ c κs. search needs)
-    put-requires
+    put-line-requires
     add-at
     add-i
     loop-less

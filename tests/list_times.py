@@ -18,6 +18,7 @@ import rules
 STX, ETX = 2, 3
 HEADING = b"time zone flags\n"
 SECONDS = 20  # longer than any run here takes
+STREAMS = 150  # random ones
 
 
 # The listing, from 'The serial feed' and 'Examples'.
@@ -292,7 +293,7 @@ def failing_read(program):
 def main(program, sample=None):
     for name, data in CASES.items():
         compare(program, name, data)
-    for seed in range(150):
+    for seed in range(STREAMS):
         compare(program, f"random stream {seed}", random_stream(random.Random(seed)))
     if sample:
         with open(sample, "rb") as file:
@@ -305,7 +306,8 @@ def main(program, sample=None):
     failing_write(program, "full output", full_output, b"standard output: No space left on device\n")
     unreadable_input(program)
     failing_read(program)
-    print(f"list_times: {len(CASES) + 150} inputs, the sample, 10 MB, single bytes, a live line and 4 failures as they must be")
+    count = len(CASES) + STREAMS
+    print(f"list_times: {count} inputs, the sample, 10 MB, single bytes, live lines and 4 failures as they must be")
 
 
 if __name__ == "__main__":

@@ -1,6 +1,8 @@
 -- Laws of whole calls of `list`. Assumes nothing.
 use Prim.Native.Nat.{ℕ, suc, _+_, _-_, _≤_, _<_}
 use native.Mathlib.Omega.{arith}
+use native.Mathlib.Nat.{lt-of-not-le}
+use native.Mathlib.Decide.{decLe}
 use mathlib.Core.Path.{_≡_, refl, sym, ap, _∙_}
 use mathlib.Core.Bool.{Bool, true, false, cond}
 use mathlib.Core.List.{List, [], _∷_, _++_}
@@ -15,7 +17,8 @@ use Rattle.listing.specs.declared.Listed.{Listed}
 use Rattle.listing.specs.Items.{string, overlong, readString, itemOf, itemLine}
 use Rattle.listing.specs.Listing.{itemAt, stepListing, after, textOf, takenOf, Outcome, outcome, listOf}
 use Rattle.listing.specs.Calls.{taken, text, Calls, none, call}
-use Rattle.listing.proofs.ListingLaws.{after-append, text-append, taken-on, agrees}
+use Rattle.listing.proofs.ItemsLaws.{line-short}
+use Rattle.listing.proofs.ListingLaws.{after-append, text-append, taken-full, taken-on, agrees}
 
 pub record Whole (l : Listing) (input shown : List ℕ) (end : Listing) : Type 0 where
   pub text : shown ≡ textOf l input
@@ -71,6 +74,24 @@ taken-within l [] room = omega arith
 taken-within l (b ∷ s) room =
     cond-within (ltb room 35) (taken-within (stepListing l b) s (room - length (itemLine (itemAt l b))))
 
+-- the text of the bytes taken has room
+pub text-fits : (l : Listing) (s : List ℕ) (room : ℕ) → length (textOf l (take (takenOf l s room) s)) ≤ room
+unfolding textOf takenOf
+text-fits l [] room = omega arith
+text-fits l (b ∷ s) room = elim (decLe 35 room) [
+  | yes h ↦
+      let line = itemLine (itemAt l b) in
+      let n = takenOf (stepListing l b) s (room - length line) in
+      rw (taken-on l b s room h)
+      (omega (
+        arith,
+        length-append line (textOf (stepListing l b) (take n s)),
+        line-short (itemAt l b),
+        text-fits (stepListing l b) s (room - length line),
+      ))
+  | no h ↦ rw (taken-full l (b ∷ s) room (lt-of-not-le h)) (omega arith)
+]
+
 -- ---- for a loop over the rest of s, `&s[i..]`
 module _
     (l : Listing) (s : List ℕ) (i : ℕ) (q : i < length s) (buffer out : List ℕ) (r : Listed)
@@ -99,5 +120,6 @@ module _ (l : Listing) (frame : List ℕ) where
   pub found-text : Finds frame (feedOf (l .framer) frame) → textOf l frame ≡ itemLine (string (readString frame))
   found-text f = whole-text (f .taken) ∙ rw (f .answer, f .kept)
 
-  pub dropped-text : (n : ℕ) → n ≡ length frame → Drops n (feedOf (l .framer) frame) → textOf l frame ≡ itemLine overlong
+  pub dropped-text : (n : ℕ) → n ≡ length frame → Drops n (feedOf (l .framer) frame)
+      → textOf l frame ≡ itemLine overlong
   dropped-text n e f = whole-text (f .taken ∙ e) ∙ rw (f .answer)

@@ -7,7 +7,8 @@ use mathlib.Core.Path.{_≡_, refl, sym, ap, _∙_}
 use mathlib.Core.List.{List, [], _∷_, _++_, append-nil}
 use borrow.Author.Tests.{lt-ltb, le-ltb}
 use lib.ListN.{length, take, drop, set, length-set, length-drop, drop-of-length-le}
-use lib.Seq.{set-split, drop-at, length-take-le, append-snoc, paste, length-paste, take-paste, take-length, take-all, take-take}
+use lib.Seq.{set-split, drop-at, length-take-le, append-snoc, take-length, take-all, take-take}
+use lib.Seq.{paste, length-paste, take-paste}
 use Rattle.listing.specs.Items.{numeralWithin, numeral}
 use Rattle.layout.specs.Ascii.{ascii}
 use Rattle.listing.specs.Listing.{totalsLine}
@@ -58,6 +59,9 @@ module _ (n : ℕ) (d : List ℕ) (rest i : ℕ) (w : Spelt n d rest i) where
   abbrev digit : ℕ
   digit = 48 + rest % 10
 
+  inside : i < length d
+  inside = omega (arith, w .within, w .size)
+
   pub spelt-more : (j : ℕ) → i ≡ j + 1 → 10 ≤ rest → Spelt n (set d i digit) (rest / 10) j
   spelt-more j e h =
       record {
@@ -68,7 +72,7 @@ module _ (n : ℕ) (d : List ℕ) (rest i : ℕ) (w : Spelt n d rest i) where
             ∙ ap (λ (k : ℕ). numeralWithin k rest ++ drop (i + 1) d) e
             ∙ ap (λ (x : List ℕ). x ++ drop (i + 1) d) (within-more j rest h)
             ∙ append-snoc (numeralWithin j (rest / 10)) digit (drop (i + 1) d)
-            ∙ ap (λ (x : List ℕ). numeralWithin j (rest / 10) ++ x) (sym (drop-set d i digit (omega (arith, w .within, w .size))))
+            ∙ ap (λ (x : List ℕ). numeralWithin j (rest / 10) ++ x) (sym (drop-set d i digit inside))
             ∙ ap (λ (k : ℕ). numeralWithin j (rest / 10) ++ drop k (set d i digit)) e;
       }
 
@@ -78,7 +82,7 @@ module _ (n : ℕ) (d : List ℕ) (rest i : ℕ) (w : Spelt n d rest i) where
         within = w .within;
         size = simp length-set (w .size);
         bytes =
-            drop-set d i digit (omega (arith, w .within, w .size))
+            drop-set d i digit inside
             ∙ sym (w .text ∙ ap (λ (x : List ℕ). x ++ drop (i + 1) d) h);
       }
 

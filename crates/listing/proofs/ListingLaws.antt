@@ -74,7 +74,8 @@ module _ (l : Listing) (b : ℕ) (s : List ℕ) where
   unfolding itemLine
   silent quiet = simp quiet
 
-  agrees-on : stepOf (l .framer) b .answer ≡ nothingYet → (r : Feeding) → Agrees onward s r → Agrees l (b ∷ s) (later 1 r)
+  agrees-on : stepOf (l .framer) b .answer ≡ nothingYet → (r : Feeding) → Agrees onward s r
+      → Agrees l (b ∷ s) (later 1 r)
   unfolding after textOf later
   agrees-on quiet r h =
       record {

@@ -8,10 +8,12 @@ use lib.ListN.{length, length-append}
 use Rattle.framing.specs.Framed.{allPlain}
 use Rattle.framing.proofs.Theorems as framing
 use Rattle.listing.specs.declared.Listing.{Listing}
-use Rattle.listing.specs.Items.{string, overlong, readString, itemLine}
+use Rattle.listing.specs.Items.{Item, string, overlong, readString, itemLine}
 use Rattle.listing.specs.Listing.{after, textOf, listOf}
 use Rattle.listing.specs.Calls.{Calls}
-use Rattle.listing.proofs.CallsLaws.{Whole, whole, taken-within, taken-some, taken-all, found-text, dropped-text}
+use Rattle.listing.proofs.ItemsLaws.{line-short}
+use Rattle.listing.proofs.CallsLaws.{whole, taken-within, text-fits, taken-some, taken-all}
+use Rattle.listing.proofs.CallsLaws.{found-text, dropped-text}
 
 -- how the input is cut does not matter: calls on any slices and with any buffers show the text of the bytes that they
 -- take, and leave the state and so the totals that are those of the whole
@@ -19,22 +21,30 @@ pub cuts-do-not-matter : {l : Listing} {input shown : List ℕ} {end : Listing} 
     → (shown ≡ textOf l input) × (end ≡ after l input)
 cuts-do-not-matter calls = (whole calls .text, whole calls .state)
 
--- a call takes no more than there is
-pub list-takes-within : (l : Listing) (s buffer : List ℕ) → listOf l s buffer .taken ≤ length s
-unfolding listOf
-list-takes-within l s buffer = taken-within l s (length buffer)
+-- no line is longer than that of a clock time, 35 bytes
+pub lines-short : (i : Item) → length (itemLine i) ≤ 35
+lines-short = line-short
 
--- with room for any line takes something where there is something
-pub list-takes-some : (l : Listing) (s buffer : List ℕ) → 35 ≤ length buffer → 0 < length s
-    → 0 < listOf l s buffer .taken
-unfolding listOf
-list-takes-some l s buffer = taken-some l s (length buffer)
+module _ (l : Listing) (s buffer : List ℕ) where
+  -- a call takes no more than there is
+  pub list-takes-within : listOf l s buffer .taken ≤ length s
+  unfolding listOf
+  list-takes-within = taken-within l s (length buffer)
 
--- and everything where a line more than the text would fit
-pub list-takes-all : (l : Listing) (s buffer : List ℕ) → length (textOf l s) + 35 ≤ length buffer
-    → listOf l s buffer .taken ≡ length s
-unfolding listOf
-list-takes-all l s buffer = taken-all l s (length buffer)
+  -- its text fits
+  pub list-fits : listOf l s buffer .length ≤ length buffer
+  unfolding listOf
+  list-fits = text-fits l s (length buffer)
+
+  -- with room for any line it takes something where there is something
+  pub list-takes-some : 35 ≤ length buffer → 0 < length s → 0 < listOf l s buffer .taken
+  unfolding listOf
+  list-takes-some = taken-some l s (length buffer)
+
+  -- and everything where a line more than the text would fit
+  pub list-takes-all : length (textOf l s) + 35 ≤ length buffer → listOf l s buffer .taken ≡ length s
+  unfolding listOf
+  list-takes-all = taken-all l s (length buffer)
 
 module _ (l : Listing) (body : List ℕ) (size : length (l .framer .bytes) ≡ 66) (plain : allPlain body ≡ true) where
   -- every string of up to 66 bytes has its own line, whatever came before

@@ -16,7 +16,8 @@ use Rattle.listing.specs.Items.{Item, Within, itemOf, itemLine, Shows, c
 use Rattle.listing.specs.Told.{Tells}
 use Rattle.listing.proofs.ListingLaws.{Agrees, agrees}
 
-within-few : (a : FeedAnswer) (bytes : List ℕ) → length bytes ≡ 66 → ((n : ℕ) → a ≡ complete n → n ≤ 66) → Within a bytes
+within-few : (a : FeedAnswer) (bytes : List ℕ) → length bytes ≡ 66 → ((n : ℕ) → a ≡ complete n → n ≤ 66)
+    → Within a bytes
 within-few nothingYet bytes size few = tt
 within-few (complete n) bytes size few = let h : n ≤ 66 = few n refl in omega arith
 within-few dropped bytes size few = tt
@@ -34,8 +35,8 @@ module _ (l : Listing) (s : List ℕ) (r : Fed) (e : fed r ≡ feedOf (l .framer
   told-agrees : Agrees l s (fed r)
   told-agrees = rw whole (agrees s l)
 
-  pub tells : (i : Item) → i ≡ itemOf (r .framer .bytes) (fed r .answer) → (totals : Totals) → totals ≡ counted (l .totals) i
-      → (line : Line) → Shows line i
+  pub tells : (i : Item) → i ≡ itemOf (r .framer .bytes) (fed r .answer)
+      → (totals : Totals) → totals ≡ counted (l .totals) i → (line : Line) → Shows line i
       → Tells l s (record { listing = record { framer = r .framer; totals = totals }; line = line; taken = r .taken })
   tells i q totals t line shows =
       record {

@@ -12,8 +12,8 @@ taken s r = take (r .taken) s
 abbrev pub text : Outcome → List ℕ
 text r = take (r .length) (r .buffer)
 
--- from the state l, calls on any slices and with any buffers take the bytes `input`, put the bytes `shown` to the fronts
--- of their buffers, and leave the state `end`
+-- from the state l, calls on any slices and with any buffers take the bytes `input`, put the bytes `shown` to the
+-- fronts of their buffers, and leave the state `end`
 pub data Calls : Listing → List ℕ → List ℕ → Listing → Type 0 where
   none : {l : Listing} → Calls l [] [] l
   call : {l : Listing} (s buffer : List ℕ) {input shown : List ℕ} {end : Listing}

@@ -1,4 +1,4 @@
--- What the listing says of each string: its line, or why there is none. Assumes nothing.
+-- What the listing makes of each string. Assumes nothing.
 use Prim.Native.Nat.{ℕ, zero, suc, _+_, _/_, _%_, _^_, _≤_}
 use mathlib.Core.Path.{_≡_}
 use mathlib.Core.Bool.{cond}

@@ -38,7 +38,8 @@ textOf l (b ∷ s) = itemLine (itemAt l b) ++ textOf (stepListing l b) s
 -- how many bytes are taken where the text has so much room: as long as there is room for any line
 unfoldable pub takenOf : Listing → List ℕ → ℕ → ℕ
 takenOf l [] room = 0
-takenOf l (b ∷ s) room = cond (ltb room 35) 0 (suc (takenOf (stepListing l b) s (room - length (itemLine (itemAt l b)))))
+takenOf l (b ∷ s) room =
+    cond (ltb room 35) 0 (suc (takenOf (stepListing l b) s (room - length (itemLine (itemAt l b)))))
 
 -- the state after the bytes taken, and the buffer: its first `length` bytes are their text
 pub record Outcome : Type 0 where

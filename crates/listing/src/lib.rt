@@ -1,4 +1,4 @@
-// The listing of the strings in a stream of bytes, and the line of a clock time.
+// The listing of the strings in a stream of bytes, line by line.
 use calendar::unix_time::UnixTime;
 use clock_time::ClockTime;
 use clock_time::WriteAnswer;

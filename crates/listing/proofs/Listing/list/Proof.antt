@@ -23,7 +23,8 @@ put-line-requires c κs =
     let d = c .before .before .before in
     let t = d .before .before in
     let s = t .before .before .before .before .before .args .s .now in (
-      written-fits _ s _ _ _ _ _ (t .before .before .loop .inv) _ (t .before .loop-test .taken) (t .if1 .left) (d .tell .ensures),
+      written-fits _ s _ _ _ _ _ (t .before .before .loop .inv) _ (t .before .loop-test .taken) (t .if1 .left)
+          (d .tell .ensures),
       d .tell .ensures .fits,
     )
 
@@ -32,21 +33,27 @@ add-at c =
     let d = c .before .before .before .before .before .before .before in
     let t = d .before .before in
     let s = t .before .before .before .before .before .args .s .now in
-    omega (arith, written-fits _ s _ _ _ _ _ (t .before .before .loop .inv) _ (t .before .loop-test .taken) (t .if1 .left) (d .tell .ensures))
+    let h = written-fits _ s _ _ _ _ _ (t .before .before .loop .inv) _ (t .before .loop-test .taken) (t .if1 .left)
+    (d .tell .ensures) in
+    omega (arith, h)
 
 add-i : tie.Need-add-i Inv-loop μ-loop
 add-i c =
     let d = c .before .before .before .before .before .before .before .before in
     let t = d .before .before in
     let s = t .before .before .before .before .before .args .s .now in
-    omega (arith, written-within _ s _ _ _ _ _ (t .before .before .loop .inv) _ (t .before .loop-test .taken) (t .if1 .left) (d .tell .ensures))
+    let h = written-within _ s _ _ _ _ _ (t .before .before .loop .inv) _ (t .before .loop-test .taken) (t .if1 .left)
+    (d .tell .ensures) in
+    omega (arith, h)
 
 loop-less : tie.Need-loop-less Inv-loop μ-loop
 loop-less c =
     let d = c .before .before .before .before .before .before .before .before in
     let t = d .before .before in
     let s = t .before .before .before .before .before .args .s .now in
-    omega (arith, written-some _ s _ _ _ _ _ (t .before .before .loop .inv) _ (t .before .loop-test .taken) (t .if1 .left) (d .tell .ensures))
+    let h = written-some _ s _ _ _ _ _ (t .before .before .loop .inv) _ (t .before .loop-test .taken) (t .if1 .left)
+    (d .tell .ensures) in
+    omega (arith, h)
 
 loop-again : tie.Need-loop-again Inv-loop μ-loop
 loop-again c =
@@ -54,7 +61,8 @@ loop-again c =
     let t = d .before .before in
     let s = t .before .before .before .before .before .args .s .now in
     rw (c .before .before .before .before .put-line .ensures)
-    (written-more _ s _ _ _ _ _ (t .before .before .loop .inv) _ (t .before .loop-test .taken) (t .if1 .left) (d .tell .ensures))
+    (written-more _ s _ _ _ _ _ (t .before .before .loop .inv) _ (t .before .loop-test .taken) (t .if1 .left)
+    (d .tell .ensures))
 
 returns : tie.Need-returns Inv-loop μ-loop
 returns c = written-full _ _ _ _ _ _ _ (c .before .before .loop .inv) (c .if1 .taken)

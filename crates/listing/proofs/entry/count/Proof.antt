@@ -14,7 +14,12 @@ returns-2 c = simp (c .before .enum-told2 .given .1, c .wrapping-add-u64 .ensure
 
 returns-3 : tie.Need-returns-3
 unfolding counted
-returns-3 c = simp (c .before .before .enum-told3 .given .1, c .before .wrapping-add-u642 .ensures, c .wrapping-add-u643 .ensures)
+returns-3 c =
+    simp (
+      c .before .before .enum-told3 .given .1,
+      c .before .wrapping-add-u642 .ensures,
+      c .wrapping-add-u643 .ensures,
+    )
 
 returns-4 : tie.Need-returns-4
 unfolding counted

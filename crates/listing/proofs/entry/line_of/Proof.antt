@@ -20,7 +20,9 @@ returns-2 : tie.Need-returns-2
 returns-2 c = simp (c .before .before .entry .given .1) (shows-line _ _ (c .line-of .ensures))
 
 returns-3 : tie.Need-returns-3
-returns-3 c = simp (c .before .before .before .entry2 .given .1, ← (c .before .error-number .ensures)) (c .refused-line .ensures)
+returns-3 c =
+    simp (c .before .before .before .entry2 .given .1, ← (c .before .error-number .ensures))
+    (c .refused-line .ensures)
 
 returns-4 : tie.Need-returns-4
 unfolding itemLine ascii

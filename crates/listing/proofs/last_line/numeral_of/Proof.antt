@@ -1,5 +1,5 @@
--- `listing::last_line::numeral_of` meets its contract. The loop's invariant: the digits after i are the last ones of the
--- number, and those of `rest` are left. The measure is i. Assumes nothing.
+-- `listing::last_line::numeral_of` meets its contract. The loop's invariant: the digits after i are the number's last,
+-- and those of `rest` are left. The measure is i. Assumes nothing.
 use native.Mathlib.Omega.{arith}
 use mathlib.Core.Path.{refl}
 use Rattle.listing.proofs.LastLineLaws.{Spelt, spelt-none, spelt-more, spelt-last, spelt-end, within-small}

@@ -1,0 +1,99 @@
+-- Laws of the feed's state and event as C has them: they fit bytes, and what is stored is the state. Assumes nothing.
+use Prim.Native.Nat.{ℕ, suc, _<_, _≤_}
+use native.Mathlib.Omega.{arith}
+use mathlib.Core.Path.{_≡_, refl, sym, ap, subst, _∙_}
+use mathlib.Core.Bool.{Bool, true, false, cond, _||_}
+use mathlib.Core.List.{List, [], _∷_, _++_, append-assoc, append-nil}
+use lib.Dec.{eqb}
+use lib.ListN.{length, getD, take, drop, set, length-append}
+use lib.Seq.{append-snoc, drop-cons, drop-length, set-at}
+use borrow.Author.Tests.{le-ltb}
+use Rattle.clock_time.specs.declared.WriteAnswer.{WriteAnswer}
+use Rattle.clock_time.specs.Writing.{Outcome, outcome, writing}
+use Rattle.clock_time.proofs.WritingLaws.{writing-room}
+use Rattle.framing.specs.declared.Mode.{Mode}
+use Rattle.framing.specs.declared.Mode.the-variants.{Outside, Inside, Overlong}
+use Rattle.framing.specs.declared.Framer.{Framer}
+use Rattle.framing.specs.declared.Fed.{Fed}
+use Rattle.framing.specs.Step.{FeedAnswer, answerOf, placeOf, etxAt, plainAt, stepOf}
+use Rattle.framing.specs.Feed.{Feeding, feeding, fed, isNothing, later, feedOf}
+use Rattle.framing.proofs.StepLaws.{inside-room, step-cases}
+use Rattle.radio_clock.specs.Called.{called, left}
+use Rattle.radio_clock.specs.Feed.{modeNumber, framerIn, stateBytes, eventNumber, feedMemory, feedInto}
+
+-- ---- a count and an event fit bytes
+abbrev Small : Framer → FeedAnswer → Type 0
+Small f a = (f .count ≤ 255) × (eventNumber a ≤ 255)
+
+step-small : (f : Framer) (b : ℕ) → f .count ≤ 255 → Small (stepOf f b .framer) (stepOf f b .answer)
+step-small f b h = step-cases (λ r. Small (r .framer) (r .answer)) f b (λ e. (omega arith, omega arith)) etx plain
+  where
+    etx : b ≡ 3 → (m : Mode) → placeOf (f .count) (f .mode) ≡ m → Small (etxAt m f .framer) (etxAt m f .answer)
+    etx e Outside at = (h, omega arith)
+    etx e Inside at = let room = inside-room (f .count) (f .mode) at in (omega arith, omega arith)
+    etx e Overlong at = (h, omega arith)
+
+    plain : eqb b 2 || eqb b 3 ≡ false → (m : Mode) → placeOf (f .count) (f .mode) ≡ m
+        → Small (plainAt m f b .framer) (plainAt m f b .answer)
+    plain e Outside at = (h, omega arith)
+    plain e Inside at = let room = inside-room (f .count) (f .mode) at in (omega arith, omega arith)
+    plain e Overlong at = (h, omega arith)
+
+feed-small : (s : List ℕ) (f : Framer) → f .count ≤ 255 → Small (feedOf f s .framer) (feedOf f s .answer)
+unfolding feedOf later
+feed-small [] f h = (h, omega arith)
+feed-small (b ∷ s) f h =
+    go (isNothing (stepOf f b .answer)) (feed-small s (stepOf f b .framer) (step-small f b h .0))
+  where
+    all : Bool → Feeding
+    all t =
+        cond t (later 1 (feedOf (stepOf f b .framer) s)) (feeding (stepOf f b .framer) (stepOf f b .answer) 1)
+
+    go : (t : Bool) → Small (feedOf (stepOf f b .framer) s .framer) (feedOf (stepOf f b .framer) s .answer)
+        → Small (all t .framer) (all t .answer)
+    go true more = more
+    go false more = step-small f b h
+
+pub fed-small : (r : Fed) (f : Framer) (s : List ℕ) → f .count ≤ 255 → fed r ≡ feedOf f s
+    → (r .framer .count ≤ 255) × (eventNumber (answerOf (r .event)) ≤ 255)
+fed-small r f s h e = subst (λ (x : Feeding). Small (x .framer) (x .answer)) (sym e) (feed-small s f h)
+
+pub state-small : (state : List ℕ) → getD state 66 0 < 256 → framerIn state .count ≤ 255
+unfolding framerIn
+state-small state h = omega arith
+
+-- ---- bytes written whole, and to the front
+pub written-front : (r : WriteAnswer) (x s d : List ℕ) → length s ≤ length d → outcome r x ≡ writing true s d
+    → x ≡ s ++ drop (length s) d
+written-front r x s d h e = ap (λ (o : Outcome). o .memory) (e ∙ sym (writing-room s d h))
+
+pub written-whole : (r : WriteAnswer) (x s d : List ℕ) → length s ≡ length d → outcome r x ≡ writing true s d → x ≡ s
+written-whole r x s d h e =
+    written-front r x s d (omega (arith, h)) e ∙ rw (h, drop-length d, append-nil s)
+
+-- ---- what is stored
+two-after : (n : ℕ) (bytes d : List ℕ) (x y : ℕ) → length bytes ≡ n → suc n < length d
+    → set (set (bytes ++ drop n d) n x) (suc n) y ≡ (bytes ++ x ∷ y ∷ []) ++ drop (suc (suc n)) d
+two-after n bytes d x y long room =
+    rw (drop-cons d n 0 (omega arith), drop-cons d (suc n) 0 room)
+    (ap (λ (l : List ℕ). set l (suc n) y)
+    (set-at bytes (getD d n 0) rest x n long ∙ sym (append-snoc bytes x rest))
+    ∙ set-at (bytes ++ x ∷ []) (getD d (suc n) 0) (drop (suc (suc n)) d) y (suc n) (simp length-append (omega arith))
+    ∙ simp append-assoc)
+  where
+    rest : List ℕ
+    rest = getD d (suc n) 0 ∷ drop (suc (suc n)) d
+
+pub store-after : (f : Framer) (d x : List ℕ) → length (f .bytes) ≡ 66 → 68 ≤ length d
+    → x ≡ f .bytes ++ drop (length (f .bytes)) d
+    → set (set x 66 (f .count)) 67 (modeNumber (f .mode)) ≡ stateBytes f ++ drop 68 d
+unfolding stateBytes
+store-after f d x long room e = rw (e, long) (two-after 66 (f .bytes) d (f .count) (modeNumber (f .mode)) long room)
+
+-- ---- the call
+pub feed-done : (state : List ℕ) (taken event : ℕ) (s : List ℕ) (limit : ℕ) (r : Fed) (x : List ℕ) (k : ℕ)
+    → 68 ≤ length state → fed r ≡ feedOf (framerIn state) (take limit s) → x ≡ stateBytes (r .framer) ++ drop 68 state
+    → k ≡ eventNumber (answerOf (r .event))
+    → called 0 (feedMemory x (r .taken) k) ≡ left (feedInto (feedMemory state taken event) s limit)
+unfolding feedInto
+feed-done state taken event s limit r x k room e p q = simp (le-ltb _ _ room, ← e, p, q)

@@ -1,0 +1,6 @@
+-- The definitions that the contracts cite.
+pub mod Called
+pub mod Numbers
+pub mod Strings
+pub mod Minutes
+pub mod Feed

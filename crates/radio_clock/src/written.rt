@@ -1,0 +1,18 @@
+// A writer's answer as C has it.
+use clock_time::WriteAnswer;
+ghost use mathlib.Core.Path.{_≡_};
+ghost use Rattle.clock_time.specs.Writing.{writeAnswer};
+ghost use Rattle.radio_clock.specs.Called.{called, answered};
+
+// Puts the number of places filled behind the pointer.
+pub(crate) fn put_written(answer: WriteAnswer, written: &mut usize) -> u8
+    ensures { λ r. ⌜ called r (now (written .exit)) ≡ answered (now (written .entry)) (writeAnswer answer) ⌝ }
+{
+    match answer {
+        WriteAnswer::Written(n) => {
+            *written = n;
+            0
+        }
+        WriteAnswer::Refused(e) => clock_time::error_number(e),
+    }
+}

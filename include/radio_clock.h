@@ -1,0 +1,322 @@
+/* Radio clocks: time strings of Meinberg and ELV receivers, and DCF77 second marks, by a proved library.
+ *
+ * Every function returns 0 where it did what it says, else the number of an error, and then nothing lent has changed.
+ * Results go into memory that the caller lends. No pointer is NULL, also where a length is 0; what a call may change
+ * overlaps nothing else lent to it. No function keeps a pointer, allocates, or has state of its own. */
+#ifndef RADIO_CLOCK_H
+#define RADIO_CLOCK_H
+
+#include <stdbool.h>
+#include <stddef.h>
+#include <stdint.h>
+
+#ifdef __cplusplus
+extern "C" {
+#endif
+
+/* The kinds of time strings. */
+enum radio_clock_kind_number {
+    RADIO_CLOCK_STANDARD = 0, /* Meinberg standard, 32 bytes */
+    RADIO_CLOCK_PZF = 1,      /* Uni Erlangen for PZF, 32 bytes */
+    RADIO_CLOCK_GPS = 2,      /* Uni Erlangen for GPS, 66 bytes */
+    RADIO_CLOCK_ELV = 3       /* ELV DCF7000, 21 bytes */
+};
+
+/* The second marks of a recording. Any larger byte on a recording is unsure too. */
+enum radio_clock_mark {
+    RADIO_CLOCK_SHORT = 0,
+    RADIO_CLOCK_LONG = 1,
+    RADIO_CLOCK_GAP = 2,
+    RADIO_CLOCK_UNSURE = 3
+};
+
+/* The errors, in the order of their numbers. */
+enum radio_clock_error {
+    RADIO_CLOCK_ERROR_LENGTH = 1,
+    RADIO_CLOCK_ERROR_FIXED_BYTE = 2,
+    RADIO_CLOCK_ERROR_DIGIT = 3,
+    RADIO_CLOCK_ERROR_FLAG = 4,
+    RADIO_CLOCK_ERROR_DATE = 5,
+    RADIO_CLOCK_ERROR_TIME_OF_DAY = 6,
+    RADIO_CLOCK_ERROR_WEEKDAY = 7,
+    RADIO_CLOCK_ERROR_UTC_OFFSET = 8,
+    RADIO_CLOCK_ERROR_POSITION = 9,
+    RADIO_CLOCK_ERROR_FIRST_GAP = 10,
+    RADIO_CLOCK_ERROR_RUN_LENGTH = 11,
+    RADIO_CLOCK_ERROR_MARK = 12,
+    RADIO_CLOCK_ERROR_START_MARK = 13,
+    RADIO_CLOCK_ERROR_ZONE_MARKS = 14,
+    RADIO_CLOCK_ERROR_MINUTE_PARITY = 15,
+    RADIO_CLOCK_ERROR_HOUR_PARITY = 16,
+    RADIO_CLOCK_ERROR_DATE_PARITY = 17,
+    RADIO_CLOCK_ERROR_DECIMAL_DIGIT = 18,
+    RADIO_CLOCK_ERROR_SIXTY_MARKS = 19,
+    RADIO_CLOCK_ERROR_MEMORY = 20,
+    RADIO_CLOCK_ERROR_PLACE = 21,
+    RADIO_CLOCK_ERROR_NEW_MARK = 22,
+    RADIO_CLOCK_ERROR_NO_READING = 23
+};
+
+/* The fields of a clock time, by their place in an array. Flags are 0 or 1. */
+enum radio_clock_field {
+    RADIO_CLOCK_YEAR = 0, /* 1970 to 2069 */
+    RADIO_CLOCK_MONTH = 1,
+    RADIO_CLOCK_DAY = 2,
+    RADIO_CLOCK_WEEKDAY = 3, /* 1 Monday to 7 Sunday */
+    RADIO_CLOCK_HOUR = 4,
+    RADIO_CLOCK_MINUTE = 5,
+    RADIO_CLOCK_SECOND = 6,     /* 60 in a leap second */
+    RADIO_CLOCK_UTC_OFFSET = 7, /* minutes, local minus UTC */
+    RADIO_CLOCK_UNSYNCHRONISED = 8,
+    RADIO_CLOCK_UNVERIFIED = 9,
+    RADIO_CLOCK_SUMMER_TIME = 10,
+    RADIO_CLOCK_DST_CHANGE_ANNOUNCED = 11,
+    RADIO_CLOCK_LEAP_SECOND_ANNOUNCED = 12,
+    RADIO_CLOCK_ALTERNATE_ANTENNA = 13,
+    RADIO_CLOCK_TIME_FIELDS = 14, /* how many a clock time has */
+
+    RADIO_CLOCK_LATITUDE = 14,  /* ten-thousandths of a degree, south below zero */
+    RADIO_CLOCK_LONGITUDE = 15, /* ten-thousandths of a degree, west below zero */
+    RADIO_CLOCK_HEIGHT = 16,    /* metres */
+    RADIO_CLOCK_GPS_FIELDS = 17, /* how many a GPS string has */
+
+    RADIO_CLOCK_FIRST_MARKS = 14, /* marks 1 to 14 of a minute, mark 1 the lowest bit */
+    RADIO_CLOCK_SIXTY_MARKS = 15, /* whether the minute had 60 marks */
+    RADIO_CLOCK_MINUTE_FIELDS = 16 /* how many a minute has */
+};
+
+enum radio_clock_size {
+    RADIO_CLOCK_STRING_MAX = 66,        /* bytes of the longest string */
+    RADIO_CLOCK_MINUTE_MAX = 60,        /* marks of the longest minute */
+    RADIO_CLOCK_RECORDING_MAX = 100000, /* marks of the longest recording */
+    RADIO_CLOCK_FRAMER_SIZE = 68,       /* bytes of the feed's state */
+    RADIO_CLOCK_DROPPED = 255           /* the feed's event for an overlong string */
+};
+
+/* Tells the kind of the string of n bytes at s by its length and by place 1.
+ * 1 where no kind has this length. Else *kind is its kind. It does not look whether the string is valid. */
+uint8_t radio_clock_kind(const uint8_t *s, size_t n, uint8_t *kind);
+
+/* Reads a string of the kind named.
+ * 1 for an unknown kind and for a wrong length, then the errors of a string in this order: 2, 3, 4, 8, 9, 5, 6, 7; then
+ * 20 where room is below 14, for GPS below 17. Else the first 14 or 17 fields are set, and nothing after them. */
+uint8_t radio_clock_read(uint8_t kind, const uint8_t *s, size_t n, int32_t *fields, size_t room);
+
+/* Writes the string of the kind named that reads as these fields.
+ * 1 for an unknown kind; 23 where count is not 14, for GPS 17, or where no string of the kind reads as these fields;
+ * then 20 where room is below the string's length. Else the first *written bytes of out are the string, and nothing
+ * after them is changed. */
+uint8_t radio_clock_write(uint8_t kind, const int32_t *fields, size_t count, uint8_t *out, size_t room,
+                          size_t *written);
+
+/* Reads the n marks of a minute, without the gaps around them. The time is that at which the next minute starts.
+ * The errors of a minute in this order: 11 to 18, 7, 5, 6, 19; then 20 where room is below 16. Else the first 16 fields
+ * are set, and nothing after them. */
+uint8_t radio_clock_read_minute(const uint8_t *marks, size_t n, int32_t *fields, size_t room);
+
+/* Writes the 59 or 60 marks of the minute that reads as these fields, and no gap.
+ * 23 where count is not 16 or no minute reads as these fields; then 20 where room is too small. Else the first *written
+ * bytes of out are the marks, and nothing after them is changed. */
+uint8_t radio_clock_write_minute(const int32_t *fields, size_t count, uint8_t *out, size_t room, size_t *written);
+
+/* The seconds from 1 January 1970 00:00:00 UTC to a clock time. Second 60 has the number of the second after it.
+ * 23 where count is below 14 or the first 14 fields are no valid clock time. Later fields play no part, so that what
+ * any reader gave can be handed on. Else *time is the number. */
+uint8_t radio_clock_unix_time(const int32_t *fields, size_t count, int64_t *time);
+
+/* The outcome at one place of a recording of n marks: 0 where there is no gap; at a gap the error of the minute before
+ * it (10 where there is no earlier gap), or 100 and more where that minute is accepted, see radio_clock_outcome_*.
+ * 20 where n is above 100,000, then 21 where place is not below n. Else *number is the outcome. */
+uint8_t radio_clock_outcome_at(const uint8_t *marks, size_t n, size_t place, uint32_t *number);
+
+/* Works out the outcomes at all places of a recording.
+ * 20 where count is not n or n is above 100,000. Else every place of outcomes is set. */
+uint8_t radio_clock_fill_outcomes(const uint8_t *marks, size_t n, uint32_t *outcomes, size_t count);
+
+/* Puts a mark at one place of a recording, and mends the outcomes at that place and at the first gap after it.
+ * 20 where count is not n or n is above 100,000, then 21 where place is not below n, then 22 where mark is above 3.
+ * Else *changed is the number of outcomes that are others than before. */
+uint8_t radio_clock_correct_mark(uint8_t *marks, size_t n, uint32_t *outcomes, size_t count, size_t place,
+                                 uint8_t mark, size_t *changed);
+
+/* Cuts Meinberg strings out of bytes as they come: takes bytes of s up to its end, up to limit bytes, or up to just
+ * after the first string. The state starts as 68 zero bytes: 0 to 65 are those kept, 66 their number, 67 the mode (0
+ * outside a string, 1 inside, 2 overlong; any other counts as outside).
+ * 20 where size is below 68. Else *taken is the number of bytes taken, and *event is 0 for nothing yet, 1 to 66 for a
+ * complete string of so many bytes, which are the first of the state, or 255 for an overlong string dropped. */
+uint8_t radio_clock_feed(uint8_t *state, size_t size, const uint8_t *s, size_t n, size_t limit, size_t *taken,
+                         uint8_t *event);
+
+/* A clock time by names, in place of an array of fields. */
+struct radio_clock_time {
+    int32_t year;
+    int32_t month;
+    int32_t day;
+    int32_t weekday;
+    int32_t hour;
+    int32_t minute;
+    int32_t second;
+    int32_t utc_offset;
+    bool unsynchronised;
+    bool unverified;
+    bool summer_time;
+    bool dst_change_announced;
+    bool leap_second_announced;
+    bool alternate_antenna;
+};
+
+/* What a GPS string adds. */
+struct radio_clock_position {
+    int32_t latitude;
+    int32_t longitude;
+    int32_t height;
+};
+
+/* What a minute adds. */
+struct radio_clock_minute_detail {
+    int32_t first_marks;
+    bool sixty_marks;
+};
+
+/* The clock time in the first 14 fields. */
+static inline struct radio_clock_time radio_clock_time_of(const int32_t *fields)
+{
+    struct radio_clock_time t;
+    t.year = fields[RADIO_CLOCK_YEAR];
+    t.month = fields[RADIO_CLOCK_MONTH];
+    t.day = fields[RADIO_CLOCK_DAY];
+    t.weekday = fields[RADIO_CLOCK_WEEKDAY];
+    t.hour = fields[RADIO_CLOCK_HOUR];
+    t.minute = fields[RADIO_CLOCK_MINUTE];
+    t.second = fields[RADIO_CLOCK_SECOND];
+    t.utc_offset = fields[RADIO_CLOCK_UTC_OFFSET];
+    t.unsynchronised = fields[RADIO_CLOCK_UNSYNCHRONISED] != 0;
+    t.unverified = fields[RADIO_CLOCK_UNVERIFIED] != 0;
+    t.summer_time = fields[RADIO_CLOCK_SUMMER_TIME] != 0;
+    t.dst_change_announced = fields[RADIO_CLOCK_DST_CHANGE_ANNOUNCED] != 0;
+    t.leap_second_announced = fields[RADIO_CLOCK_LEAP_SECOND_ANNOUNCED] != 0;
+    t.alternate_antenna = fields[RADIO_CLOCK_ALTERNATE_ANTENNA] != 0;
+    return t;
+}
+
+/* Sets the first 14 fields from a clock time. */
+static inline void radio_clock_fields_of(struct radio_clock_time t, int32_t *fields)
+{
+    fields[RADIO_CLOCK_YEAR] = t.year;
+    fields[RADIO_CLOCK_MONTH] = t.month;
+    fields[RADIO_CLOCK_DAY] = t.day;
+    fields[RADIO_CLOCK_WEEKDAY] = t.weekday;
+    fields[RADIO_CLOCK_HOUR] = t.hour;
+    fields[RADIO_CLOCK_MINUTE] = t.minute;
+    fields[RADIO_CLOCK_SECOND] = t.second;
+    fields[RADIO_CLOCK_UTC_OFFSET] = t.utc_offset;
+    fields[RADIO_CLOCK_UNSYNCHRONISED] = t.unsynchronised;
+    fields[RADIO_CLOCK_UNVERIFIED] = t.unverified;
+    fields[RADIO_CLOCK_SUMMER_TIME] = t.summer_time;
+    fields[RADIO_CLOCK_DST_CHANGE_ANNOUNCED] = t.dst_change_announced;
+    fields[RADIO_CLOCK_LEAP_SECOND_ANNOUNCED] = t.leap_second_announced;
+    fields[RADIO_CLOCK_ALTERNATE_ANTENNA] = t.alternate_antenna;
+}
+
+/* Tells the kind of a string, reads it, and works out its Unix time: the errors of radio_clock_kind and
+ * radio_clock_read. *position is set for a GPS string only. */
+static inline uint8_t radio_clock_read_string(const uint8_t *s, size_t n, struct radio_clock_time *t,
+                                              struct radio_clock_position *position, int64_t *time)
+{
+    int32_t fields[RADIO_CLOCK_GPS_FIELDS];
+    uint8_t kind = 0;
+    uint8_t error = radio_clock_kind(s, n, &kind);
+    if (error == 0)
+        error = radio_clock_read(kind, s, n, fields, RADIO_CLOCK_GPS_FIELDS);
+    if (error == 0)
+        error = radio_clock_unix_time(fields, RADIO_CLOCK_TIME_FIELDS, time);
+    if (error != 0)
+        return error;
+    *t = radio_clock_time_of(fields);
+    if (kind == RADIO_CLOCK_GPS) {
+        position->latitude = fields[RADIO_CLOCK_LATITUDE];
+        position->longitude = fields[RADIO_CLOCK_LONGITUDE];
+        position->height = fields[RADIO_CLOCK_HEIGHT];
+    }
+    return 0;
+}
+
+/* Reads a minute and works out the Unix time that it announces: the errors of radio_clock_read_minute. */
+static inline uint8_t radio_clock_read_marks(const uint8_t *marks, size_t n, struct radio_clock_time *t,
+                                             struct radio_clock_minute_detail *detail, int64_t *time)
+{
+    int32_t fields[RADIO_CLOCK_MINUTE_FIELDS];
+    uint8_t error = radio_clock_read_minute(marks, n, fields, RADIO_CLOCK_MINUTE_FIELDS);
+    if (error == 0)
+        error = radio_clock_unix_time(fields, RADIO_CLOCK_MINUTE_FIELDS, time);
+    if (error != 0)
+        return error;
+    *t = radio_clock_time_of(fields);
+    detail->first_marks = fields[RADIO_CLOCK_FIRST_MARKS];
+    detail->sixty_marks = fields[RADIO_CLOCK_SIXTY_MARKS] != 0;
+    return 0;
+}
+
+/* An outcome of 100 and more stands for an accepted minute. These take such an outcome apart. */
+static inline bool radio_clock_outcome_accepted(uint32_t outcome) { return outcome >= 100; }
+
+/* Minutes of local time from 1970-01-01 00:00. */
+static inline uint32_t radio_clock_outcome_minutes(uint32_t outcome) { return (outcome - 100) / 32; }
+static inline bool radio_clock_outcome_sixty_marks(uint32_t outcome) { return ((outcome - 100) & 16) != 0; }
+static inline int32_t radio_clock_outcome_utc_offset(uint32_t outcome) { return ((outcome - 100) & 8) != 0 ? 120 : 60; }
+static inline bool radio_clock_outcome_antenna(uint32_t outcome) { return ((outcome - 100) & 4) != 0; }
+static inline bool radio_clock_outcome_dst_change(uint32_t outcome) { return ((outcome - 100) & 2) != 0; }
+static inline bool radio_clock_outcome_leap_second(uint32_t outcome) { return ((outcome - 100) & 1) != 0; }
+
+/* The feed's state. It starts as RADIO_CLOCK_FRAMER_START. */
+struct radio_clock_framer {
+    uint8_t state[RADIO_CLOCK_FRAMER_SIZE];
+};
+#define RADIO_CLOCK_FRAMER_START { { 0 } }
+
+/* Feeds the n bytes at s up to just after the first string: returns the event, and sets *taken. */
+static inline uint8_t radio_clock_framer_next(struct radio_clock_framer *framer, const uint8_t *s, size_t n,
+                                              size_t *taken)
+{
+    uint8_t event = 0;
+    (void)radio_clock_feed(framer->state, RADIO_CLOCK_FRAMER_SIZE, s, n, n, taken, &event);
+    return event;
+}
+
+/* What an error's number means, in English. */
+static inline const char *radio_clock_error_text(uint8_t error)
+{
+    static const char *const texts[] = {
+        "no error",
+        "string length wrong for its kind",
+        "a fixed byte differs",
+        "no digit in a digit place",
+        "a flag place holds another character",
+        "no such date",
+        "no such time of day",
+        "weekday outside 1 to 7",
+        "sign or size of the UTC offset",
+        "position",
+        "gap with no earlier gap on the recording",
+        "the run is not 59 or 60 marks",
+        "a mark in the run is neither short nor long",
+        "mark 0 is not short, or mark 20 is not long",
+        "marks 17 and 18 are equal",
+        "parity of the minute",
+        "parity of the hour",
+        "parity of the date",
+        "a decimal digit above 9",
+        "60 marks without leap second, short mark 59 and minute 0",
+        "lent memory: lengths differ, too long a recording, or too short a buffer",
+        "place at or past the end of the recording",
+        "new mark above 3",
+        "nothing accepted in this format reads so",
+    };
+    return error < sizeof texts / sizeof texts[0] ? texts[error] : "no such error number";
+}
+
+#ifdef __cplusplus
+}
+#endif
+
+#endif

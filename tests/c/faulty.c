@@ -1,0 +1,163 @@
+/* A library for testing the comparison: the reference under the library's names, with one mistake, which the environment
+ * names by its number in FAULT; 0 is none. The comparison must find each of them. */
+#include <stdlib.h>
+#include <string.h>
+
+#include "radio_clock.h"
+#include "reference.h"
+
+static int fault(void)
+{
+    static int number = -1;
+    if (number < 0) {
+        const char *text = getenv("FAULT");
+        number = text == NULL ? 0 : atoi(text);
+    }
+    return number;
+}
+
+uint8_t radio_clock_kind(const uint8_t *s, size_t n, uint8_t *kind)
+{
+    uint8_t error = reference_kind(s, n, kind);
+    if (fault() == 1 && error == 0 && n == 32 && s[1] == 'd') /* another letter taken for D */
+        *kind = RADIO_CLOCK_STANDARD;
+    if (fault() == 2 && n == 0) /* a byte before the length is known */
+        *kind = s[1];
+    return error;
+}
+
+uint8_t radio_clock_read(uint8_t kind, const uint8_t *s, size_t n, int32_t *fields, size_t room)
+{
+    if (fault() == 3 && room > 0) /* a field changed before the string is accepted */
+        fields[0] = 0;
+    if (fault() == 4 && kind > 3) /* an unknown kind taken for a known one */
+        kind &= 3;
+    if (fault() == 5 && kind == RADIO_CLOCK_GPS && n == 66 && s[48] == 'S') { /* a second zero */
+        uint8_t copy[66];
+        memcpy(copy, s, 66);
+        if (memcmp(s + 41, " 0.0000", 7) == 0)
+            copy[48] = 'N';
+        return reference_read(kind, copy, n, fields, room);
+    }
+    uint8_t error = reference_read(kind, s, n, fields, room);
+    if (fault() == 6 && error == 0 && kind == RADIO_CLOCK_STANDARD && s[29] == ' ') /* a blank taken as UTC */
+        fields[7] = 0;
+    if (fault() == 7 && error == 5 && n == 32 && kind == 0 && memcmp(s + 3, "31.06", 5) == 0) /* 31 June */
+        return 0;
+    if (fault() == 8 && error == 3) /* 3 and 4 in the wrong order */
+        return n == 32 && s[30] != ' ' && s[30] != '!' && s[30] != 'A' && s[30] != 'R' ? 4 : 3;
+    if (fault() == 9 && error == 0 && room > 17) /* a field after the last */
+        fields[17] = 0;
+    if (fault() == 10 && error == 0) /* a field past the room */
+        fields[room] = 0;
+    if (fault() == 11 && n == 32) /* a byte past the string */
+        fields[0] += s[n] * 0;
+    if (fault() == 12 && error == 6 && kind == RADIO_CLOCK_PZF && memcmp(s + 20, "60", 2) == 0) /* second 60 */
+        return 0;
+    return error;
+}
+
+uint8_t radio_clock_write(uint8_t kind, const int32_t *fields, size_t count, uint8_t *out, size_t room, size_t *written)
+{
+    int32_t copy[40];
+    memcpy(copy, fields, 4 * (count < 40 ? count : 40));
+    if (fault() == 13) /* the month's low byte alone */
+        copy[1] &= 255;
+    if (fault() == 14 && count == 17 && kind < 2) /* more fields than the kind has */
+        count = 14;
+    uint8_t error = reference_write(kind, copy, count, out, room, written);
+    if (fault() == 15 && error == 20) /* a count although refused */
+        *written = 0;
+    if (fault() == 16 && error == 0 && room > *written) /* a byte after the string */
+        out[*written] = 0;
+    if (fault() == 17 && error == 0) /* a byte before the buffer */
+        out[-1] = 2;
+    return error;
+}
+
+uint8_t radio_clock_read_minute(const uint8_t *marks, size_t n, int32_t *fields, size_t room)
+{
+    uint8_t error = reference_read_minute(marks, n, fields, room);
+    if (fault() == 18 && error == 5 && marks[42] + marks[43] + marks[44] == 0) /* cannot be: 7 comes before 5 */
+        return 7;
+    if (fault() == 19 && error == 7) /* 5 before 7 */
+        return marks[36] + marks[37] + marks[38] + marks[39] + marks[40] + marks[41] == 0 ? 5 : 7;
+    if (fault() == 20 && error == 0 && fields[5] > 0) /* the minute just sent */
+        fields[5]--;
+    if (fault() == 21 && error == 19) /* 60 marks at any time */
+        return 0;
+    return error;
+}
+
+uint8_t radio_clock_write_minute(const int32_t *fields, size_t count, uint8_t *out, size_t room, size_t *written)
+{
+    uint8_t error = reference_write_minute(fields, count, out, room, written);
+    if (fault() == 22 && error == 0 && room > 59) /* the gap written too */
+        out[*written == 60 ? 59 : 59] = *written == 60 ? 0 : 2;
+    if (fault() == 23 && error == 23 && count == 16 && fields[14] == 16384) /* 15 bits */
+        return 20;
+    return error;
+}
+
+uint8_t radio_clock_unix_time(const int32_t *fields, size_t count, int64_t *time)
+{
+    uint8_t error = reference_unix_time(fields, count, time);
+    if (fault() == 24 && error == 0 && fields[6] == 60) /* second 60 as second 59 */
+        --*time;
+    if (fault() == 25 && error == 0 && fields[0] == 2000 && fields[1] == 3 && fields[2] == 1) /* one day */
+        *time += 86400;
+    if (fault() == 26 && error == 23 && count >= 14 && fields[13] == 2) /* a flag of 2 */
+        return 0;
+    return error;
+}
+
+uint8_t radio_clock_outcome_at(const uint8_t *marks, size_t n, size_t place, uint32_t *number)
+{
+    uint8_t error = reference_outcome_at(marks, n, place, number);
+    if (fault() == 27 && error == 0 && *number == 10) /* the first gap as a short run */
+        *number = 11;
+    return error;
+}
+
+uint8_t radio_clock_fill_outcomes(const uint8_t *marks, size_t n, uint32_t *outcomes, size_t count)
+{
+    uint8_t error = reference_fill_outcomes(marks, n, outcomes, count);
+    if (fault() == 28 && error == 20 && n == 100001 && count == n) /* one mark too many */
+        return 0;
+    return error;
+}
+
+uint8_t radio_clock_correct_mark(uint8_t *marks, size_t n, uint32_t *outcomes, size_t count, size_t place, uint8_t mark,
+                                 size_t *changed)
+{
+    if (fault() == 29 && count == n && place < n && mark <= 3 && n <= 100000) { /* its own place alone */
+        uint32_t before = outcomes[place];
+        marks[place] = mark;
+        reference_outcome_at(marks, n, place, &outcomes[place]);
+        *changed = before != outcomes[place];
+        return 0;
+    }
+    uint8_t error = reference_correct_mark(marks, n, outcomes, count, place, mark, changed);
+    if (fault() == 30 && error == 0 && *changed == 2) /* a made-up count */
+        *changed = 1;
+    if (fault() == 31 && error == 0) /* the whole sheet made anew */
+        reference_fill_outcomes(marks, n, outcomes, count);
+    if (fault() == 32 && error == 22) /* the mark put although refused */
+        marks[place] = mark;
+    return error;
+}
+
+uint8_t radio_clock_feed(uint8_t *state, size_t size, const uint8_t *s, size_t n, size_t limit, size_t *taken,
+                         uint8_t *event)
+{
+    if (fault() == 33 && size >= 68 && state[66] > 66 && state[67] == 2) /* overlong with more than 66 kept */
+        state[66] = 66;
+    uint8_t error = reference_feed(state, size, s, n, limit, taken, event);
+    if (fault() == 34 && error == 0 && *event == 66) /* 66 bytes dropped */
+        *event = 255;
+    if (fault() == 35 && error == 0 && size > 68) /* a byte after the state */
+        state[68] = 0;
+    if (fault() == 36 && error == 0 && *event == 0 && *taken > 0 && *taken == n && n < limit) /* one byte too few */
+        --*taken;
+    return error;
+}

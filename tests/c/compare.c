@@ -23,8 +23,9 @@
 enum { LENT = 4, SMALL = 4000, ANSWERS = 24 };
 enum function { KIND, READ, WRITE, READ_MINUTE, WRITE_MINUTE, UNIX_TIME, OUTCOME_AT, FILL, CORRECT, FEED, FUNCTIONS };
 
-static const char *const names[FUNCTIONS] = { "kind",      "read",       "write",         "read_minute",  "write_minute",
-                                              "unix_time", "outcome_at", "fill_outcomes", "correct_mark", "feed" };
+static const char *const names[FUNCTIONS] = { "kind",         "read",      "write",      "read_minute",
+                                              "write_minute", "unix_time", "outcome_at", "fill_outcomes",
+                                              "correct_mark", "feed" };
 
 static struct lent small[LENT], large_marks, large_outcomes;
 static uint64_t seed, number;
@@ -35,8 +36,8 @@ static unsigned long answers[FUNCTIONS][ANSWERS], outcomes_seen[ANSWERS], events
 static void say_case(void)
 {
     char line[160];
-    int length = snprintf(line, sizeof line, "case %" PRIu64 " (again: compare -s %" PRIu64 " -c %" PRIu64 ")\n", number,
-                          seed, number);
+    int length = snprintf(line, sizeof line, "case %" PRIu64 " (again: compare -s %" PRIu64 " -c %" PRIu64 ")\n",
+                          number, seed, number);
     (void)!write(1, line, (size_t)length);
 }
 
@@ -388,12 +389,10 @@ static size_t place_on(const uint8_t *marks, size_t n)
 }
 
 /* A chain of corrections. The outcomes start right, or not quite; while right they must be those made anew. */
-static void try_recording(void)
+static void try_recording_of(size_t n, size_t count)
 {
-    bool large = one_in(4000);
+    bool large = n >= 1000;
     struct lent *marks = large ? &large_marks : &small[0], *outcomes = large ? &large_outcomes : &small[1];
-    size_t n = large ? (one_in(2) ? 100000 + below(2) : below(100000)) : one_in(8) ? below(3) : below(900);
-    size_t count = one_in(20) ? (one_in(2) ? n + 1 : n - (n > 0)) : n;
     lend(marks, n, !one_in(4));
     make_recording(marks->library, n);
     lend_copy(marks);
@@ -426,6 +425,12 @@ static void try_recording(void)
             fail(CORRECT, "the outcomes are not those made anew");
         free(anew);
     }
+}
+
+static void try_recording(void)
+{
+    size_t n = one_in(4000) ? 1000 + below(99001) : one_in(8) ? below(3) : below(900);
+    try_recording_of(n, one_in(20) ? (one_in(2) ? n + 1 : n - (n > 0)) : n);
 }
 
 /* A line fed in random cuts with random limits, each side from the state that it gave before. */
@@ -514,18 +519,25 @@ static void sweep_minutes(void)
     }
 }
 
+static int32_t last_day(int32_t year, int32_t month)
+{
+    bool leap = year % 4 == 0 && (year % 100 != 0 || year % 400 == 0);
+    if (month == 2)
+        return leap ? 29 : 28;
+    return month == 4 || month == 6 || month == 9 || month == 11 ? 30 : 31;
+}
+
 /* All days that there are, and those that there are not, by counting; the reference is held to the count, too. */
 static void sweep_days(void)
 {
     int64_t midnight = 0;
     for (int32_t year = 1969; year <= 2070; year++) {
         for (int32_t month = 0; month <= 13; month++) {
-            bool leap = year % 4 == 0 && (year % 100 != 0 || year % 400 == 0);
-            int32_t last = month == 2 ? (leap ? 29 : 28) : month == 4 || month == 6 || month == 9 || month == 11 ? 30 : 31;
             for (int32_t day = 0; day <= 32; day++) {
                 int32_t fields[14] = { year, month, day, 1 };
                 int64_t time = -1;
-                bool exists = year >= 1970 && year <= 2069 && month >= 1 && month <= 12 && day >= 1 && day <= last;
+                bool exists = year >= 1970 && year <= 2069 && month >= 1 && month <= 12 && day >= 1 &&
+                              day <= last_day(year, month);
                 compare_unix_time(fields, 14);
                 uint8_t answer = reference_unix_time(fields, 14, &time);
                 if (answer != (exists ? 0 : 23) || (exists && time != midnight))
@@ -537,12 +549,21 @@ static void sweep_days(void)
     }
 }
 
+/* The longest recording, and one mark more. */
+static void sweep_lengths(void)
+{
+    for (size_t n = 99999; n <= 100001; n++)
+        for (size_t count = n - 1; count <= n + 1; count++)
+            try_recording_of(n, count);
+}
+
 static void sweep(void)
 {
     inputs_seed(seed, number);
     sweep_strings();
     sweep_minutes();
     sweep_days();
+    sweep_lengths();
 }
 
 /* What was seen. */
@@ -584,7 +605,7 @@ static void print_answers(void)
 
 int main(int argc, char **argv)
 {
-    uint64_t cases = 1500000, only = 0;
+    uint64_t cases = 2000000, only = 0;
     bool alone = false;
     seed = (uint64_t)time(NULL);
     for (int i = 1; i + 1 < argc; i += 2) {

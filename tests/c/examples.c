@@ -77,7 +77,8 @@ static void run_strings(const struct face *face)
         uint8_t answer = face->read(examples[i].kind, s, strlen(examples[i].string), fields, 17);
         check(face, answer == examples[i].answer, examples[i].what);
         if (i == 0)
-            check(face, fields[0] == 1993 && fields[3] == 5 && fields[14] == 495736 && fields[15] == 110280, "P1's fields");
+            check(face, fields[0] == 1993 && fields[3] == 5 && fields[14] == 495736 && fields[15] == 110280,
+                  "P1's fields");
     }
 }
 

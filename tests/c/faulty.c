@@ -1,5 +1,5 @@
-/* A library for testing the comparison: the reference under the library's names, with one mistake, which the environment
- * names by its number in FAULT; 0 is none. The comparison must find each of them. */
+/* A library for testing the comparison: the reference under the library's names, with one mistake, whose number the
+ * environment has in FAULT; 0 is none. The comparison must find each of them. */
 #include <stdlib.h>
 #include <string.h>
 
@@ -51,7 +51,7 @@ uint8_t radio_clock_read(uint8_t kind, const uint8_t *s, size_t n, int32_t *fiel
     if (fault() == 10 && error == 0) /* a field past the room */
         fields[room] = 0;
     if (fault() == 11 && n == 32) /* a byte past the string */
-        fields[0] += s[n] * 0;
+        (void)*(const volatile uint8_t *)(s + n);
     if (fault() == 12 && error == 6 && kind == RADIO_CLOCK_PZF && memcmp(s + 20, "60", 2) == 0) /* second 60 */
         return 0;
     return error;
@@ -78,8 +78,12 @@ uint8_t radio_clock_write(uint8_t kind, const int32_t *fields, size_t count, uin
 uint8_t radio_clock_read_minute(const uint8_t *marks, size_t n, int32_t *fields, size_t room)
 {
     uint8_t error = reference_read_minute(marks, n, fields, room);
-    if (fault() == 18 && error == 5 && marks[42] + marks[43] + marks[44] == 0) /* cannot be: 7 comes before 5 */
-        return 7;
+    if (fault() == 18 && error == 15) { /* parity without its own bit */
+        uint8_t copy[60];
+        memcpy(copy, marks, n);
+        copy[28] ^= 1;
+        return reference_read_minute(copy, n, fields, room);
+    }
     if (fault() == 19 && error == 7) /* 5 before 7 */
         return marks[36] + marks[37] + marks[38] + marks[39] + marks[40] + marks[41] == 0 ? 5 : 7;
     if (fault() == 20 && error == 0 && fields[5] > 0) /* the minute just sent */
@@ -92,8 +96,8 @@ uint8_t radio_clock_read_minute(const uint8_t *marks, size_t n, int32_t *fields,
 uint8_t radio_clock_write_minute(const int32_t *fields, size_t count, uint8_t *out, size_t room, size_t *written)
 {
     uint8_t error = reference_write_minute(fields, count, out, room, written);
-    if (fault() == 22 && error == 0 && room > 59) /* the gap written too */
-        out[*written == 60 ? 59 : 59] = *written == 60 ? 0 : 2;
+    if (fault() == 22 && error == 0 && room > *written) /* the gap written too */
+        out[*written] = 2;
     if (fault() == 23 && error == 23 && count == 16 && fields[14] == 16384) /* 15 bits */
         return 20;
     return error;

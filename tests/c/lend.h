@@ -1,5 +1,5 @@
-/* Memory that is lent twice, to the library and to the reference, with the same bytes in and around it. Each copy stands
- * between two pages that nobody may touch, so that one byte too far at that end stops the program. */
+/* Memory that is lent twice, to the library and to the reference, with the same bytes in and around it. Each copy
+ * stands between two pages that nobody may touch, so that one byte too far at that end stops the program. */
 #ifndef LEND_H
 #define LEND_H
 

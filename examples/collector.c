@@ -1,0 +1,214 @@
+/* collector: reads captures of serial lines, ELV receivers and DCF77 recordings, and prints all clock times in them as
+ * one column in UTC, with the local time, its zone, the flags and the file beside it. */
+#include <errno.h>
+#include <inttypes.h>
+#include <stdbool.h>
+#include <stdio.h>
+#include <stdlib.h>
+#include <string.h>
+#include <time.h>
+
+#include "radio_clock.h"
+
+static const char usage[] =
+    "usage: collector [-s FILE | -e FILE | -m FILE]...\n"
+    "  -s FILE   a serial line: Meinberg strings from STX to ETX, whatever stands between them\n"
+    "  -e FILE   ELV strings, each ended by CR; LF after CR is passed over\n"
+    "  -m FILE   a DCF77 recording, one mark a byte: 0 short, 1 long, 2 gap, 3 unsure\n"
+    "FILE may be - for standard input. The times of all files are sorted by UTC. What is refused goes to standard\n"
+    "error with its place, counted from 0. The flags are #*S!ARL: unsynchronised, unverified, summer time, change\n"
+    "of summer time announced, leap second announced, alternate antenna, second 60.\n";
+
+/* A clock time, and where it came from. */
+struct entry {
+    int64_t unix_time;
+    struct radio_clock_time time;
+    const char *file;
+    size_t order;
+};
+
+static struct entry *entries;
+static size_t entry_count, entry_room, refused;
+
+static void stop(const char *file, const char *what)
+{
+    fprintf(stderr, "collector: %s: %s\n", file, what);
+    exit(1);
+}
+
+static void refuse(const char *file, size_t place, uint8_t error)
+{
+    fprintf(stderr, "collector: %s: place %zu: refused %d: %s\n", file, place, error, radio_clock_error_text(error));
+    refused++;
+}
+
+static void add_entry(const char *file, const struct radio_clock_time *time, int64_t unix_time)
+{
+    if (entry_count == entry_room) {
+        entry_room = entry_room == 0 ? 1024 : 2 * entry_room;
+        entries = realloc(entries, entry_room * sizeof *entries);
+        if (entries == NULL)
+            stop(file, "no memory for so many times");
+    }
+    entries[entry_count].unix_time = unix_time;
+    entries[entry_count].time = *time;
+    entries[entry_count].file = file;
+    entries[entry_count].order = entry_count;
+    entry_count++;
+}
+
+/* All bytes of a file. */
+static uint8_t *read_file(const char *name, size_t *length)
+{
+    FILE *file = strcmp(name, "-") == 0 ? stdin : fopen(name, "rb");
+    uint8_t *bytes = NULL;
+    size_t room = 0, n = 0;
+    if (file == NULL)
+        stop(name, strerror(errno));
+    do {
+        if (n == room) {
+            room = room == 0 ? 65536 : 2 * room;
+            bytes = realloc(bytes, room);
+            if (bytes == NULL)
+                stop(name, "no memory for the whole file");
+        }
+        n += fread(bytes + n, 1, room - n, file);
+        if (ferror(file))
+            stop(name, strerror(errno));
+    } while (!feof(file));
+    if (file != stdin)
+        fclose(file);
+    *length = n;
+    return bytes;
+}
+
+/* Reads one string, which stands at a place of the file. */
+static void collect_string(const char *file, size_t place, const uint8_t *s, size_t n)
+{
+    struct radio_clock_time time;
+    struct radio_clock_position position;
+    int64_t unix_time;
+    uint8_t error = radio_clock_read_string(s, n, &time, &position, &unix_time);
+    if (error == 0)
+        add_entry(file, &time, unix_time);
+    else
+        refuse(file, place, error);
+}
+
+static void collect_serial(const char *file, const uint8_t *s, size_t n)
+{
+    struct radio_clock_framer framer = RADIO_CLOCK_FRAMER_START;
+    size_t place = 0;
+    while (place < n) {
+        size_t taken = 0;
+        uint8_t event = radio_clock_framer_next(&framer, s + place, n - place, &taken);
+        place += taken;
+        if (event == RADIO_CLOCK_DROPPED) {
+            fprintf(stderr, "collector: %s: place %zu: overlong string dropped\n", file, place);
+            refused++;
+        } else if (event != 0) {
+            collect_string(file, place - event, framer.state, event);
+        }
+    }
+}
+
+static void collect_elv(const char *file, const uint8_t *s, size_t n)
+{
+    size_t place = 0;
+    while (place < n) {
+        const uint8_t *cr = memchr(s + place, '\r', n - place);
+        size_t end = cr == NULL ? n : (size_t)(cr - s) + 1;
+        collect_string(file, place, s + place, end - place);
+        place = end < n && s[end] == '\n' ? end + 1 : end;
+    }
+}
+
+/* Each minute between two gaps. What stands before the first gap is no whole minute. */
+static void collect_marks(const char *file, const uint8_t *marks, size_t n)
+{
+    const uint8_t *gap = n == 0 ? NULL : memchr(marks, RADIO_CLOCK_GAP, n);
+    while (gap != NULL) {
+        struct radio_clock_time time;
+        struct radio_clock_minute_detail detail;
+        int64_t unix_time;
+        const uint8_t *run = gap + 1;
+        size_t left = n - (size_t)(run - marks);
+        gap = left == 0 ? NULL : memchr(run, RADIO_CLOCK_GAP, left);
+        if (gap == NULL)
+            break;
+        uint8_t error = radio_clock_read_marks(run, (size_t)(gap - run), &time, &detail, &unix_time);
+        if (error == 0)
+            add_entry(file, &time, unix_time);
+        else
+            refuse(file, (size_t)(gap - marks), error);
+    }
+}
+
+/* By Unix time, a leap second before the second after it, else as read. */
+static int by_time(const void *a, const void *b)
+{
+    const struct entry *x = a, *y = b;
+    if (x->unix_time != y->unix_time)
+        return x->unix_time < y->unix_time ? -1 : 1;
+    if (x->time.second != y->time.second)
+        return x->time.second > y->time.second ? -1 : 1;
+    return x->order < y->order ? -1 : 1;
+}
+
+static void print_entry(const struct entry *entry)
+{
+    const struct radio_clock_time *t = &entry->time;
+    bool leap = t->second == 60;
+    time_t seconds = (time_t)(entry->unix_time - leap);
+    struct tm *utc = gmtime(&seconds);
+    char minute[32];
+    int offset = abs(t->utc_offset);
+    if (utc == NULL || strftime(minute, sizeof minute, "%Y-%m-%d %H:%M", utc) == 0)
+        stop(entry->file, "a time that this machine's C library cannot print");
+    printf("%s:%02d  %04" PRId32 "-%02" PRId32 "-%02" PRId32 " %02" PRId32 ":%02" PRId32 ":%02" PRId32 " %c%02d:%02d ",
+           minute, leap ? 60 : utc->tm_sec, t->year, t->month, t->day, t->hour, t->minute, t->second,
+           t->utc_offset < 0 ? '-' : '+', offset / 60, offset % 60);
+    printf("%c%c%c%c%c%c%c  %s\n", t->unsynchronised ? '#' : '-', t->unverified ? '*' : '-', t->summer_time ? 'S' : '-',
+           t->dst_change_announced ? '!' : '-', t->leap_second_announced ? 'A' : '-', t->alternate_antenna ? 'R' : '-',
+           leap ? 'L' : '-', entry->file);
+}
+
+static void collect(const char *option, const char *file)
+{
+    size_t n = 0;
+    uint8_t *bytes = read_file(file, &n);
+    if (strcmp(option, "-s") == 0)
+        collect_serial(file, bytes, n);
+    else if (strcmp(option, "-e") == 0)
+        collect_elv(file, bytes, n);
+    else
+        collect_marks(file, bytes, n);
+    free(bytes);
+}
+
+int main(int argc, char **argv)
+{
+    if (argc < 3 || argc % 2 == 0) {
+        fputs(usage, stderr);
+        return 2;
+    }
+    for (int i = 1; i < argc; i += 2) {
+        if (strcmp(argv[i], "-s") != 0 && strcmp(argv[i], "-e") != 0 && strcmp(argv[i], "-m") != 0) {
+            fprintf(stderr, "collector: no such option: %s\n%s", argv[i], usage);
+            return 2;
+        }
+    }
+    for (int i = 1; i < argc; i += 2)
+        collect(argv[i], argv[i + 1]);
+    if (entry_count > 0)
+        qsort(entries, entry_count, sizeof *entries, by_time);
+    printf("%-19s  %-19s %-6s %-7s  file\n", "UTC", "local", "zone", "flags");
+    for (size_t i = 0; i < entry_count; i++)
+        print_entry(&entries[i]);
+    fflush(stdout);
+    fprintf(stderr, "collector: %zu times, %zu refused\n", entry_count, refused);
+    free(entries);
+    if (ferror(stdout))
+        stop("standard output", "cannot be written");
+    return 0;
+}

@@ -1,0 +1,65 @@
+#!/usr/bin/env bash
+# bench.sh BENCH [LIST_TIMES]: prints docs/BENCHMARKS.md. Instructions are counted where valgrind is installed, and the
+# program is timed on 100 MB where it is there.
+set -euo pipefail
+bench=$1
+list_times=${2:-}
+processor=$(sed -n 's/^model name[[:space:]]*: //p' /proc/cpuinfo | head -1)
+
+# The instructions of one unit of a row by one side: those collected inside the function called, by the units.
+instructions() {
+    local called units collected
+    read -r called units < <("$bench" -c "$1" "$2")
+    collected=$(valgrind --tool=callgrind --callgrind-out-file=/dev/null --toggle-collect="$called" \
+        "$bench" -c "$1" "$2" 2>&1 > /dev/null | sed -n 's/.*Collected : //p')
+    awk -v all="$collected" -v units="$units" 'BEGIN { printf "%.1f", all / units }'
+}
+
+# Seconds of the best of three runs, with the file as input.
+best() {
+    local out=$1 start end
+    shift
+    for _ in 1 2 3; do
+        start=$(date +%s%N)
+        "$@" < "$work/capture" > "$out"
+        end=$(date +%s%N)
+        echo $((end - start))
+    done | sort -n | head -1 | awk '{ printf "%.2f", $1 / 1e9 }'
+}
+
+cat << END
+# Benchmarks
+
+Measured on $processor, plain C by $("${CC:-cc}" --version | head -1) at -O2. \`make bench\` prints this page.
+
+The library and a plain C implementation of the same rules ([reference.c](../tests/c/reference.c)) run in one process on the
+same varied valid inputs and take turns; a time is the best of 400 rounds. Instructions are those inside the function, by
+callgrind, and come out the same each time.
+
+| call | library, ns | plain C, ns | ratio | library, instructions | plain C, instructions | ratio |
+|---|---:|---:|---:|---:|---:|---:|
+END
+"$bench" | while IFS=$'\t' read -r name library reference; do
+    counts="| | |"
+    if command -v valgrind > /dev/null; then
+        ours=$(instructions "$name" library)
+        theirs=$(instructions "$name" reference)
+        counts=$(awk -v a="$ours" -v b="$theirs" 'BEGIN { printf "%s | %s | %.2f", a, b, a / b }')
+    fi
+    awk -v name="$name" -v a="$library" -v b="$reference" -v counts="$counts" \
+        'BEGIN { printf "| %s | %s | %s | %.2f | %s |\n", name, a, b, a / b, counts }'
+done
+if [ -x "$list_times" ]; then
+    work=$(mktemp -d)
+    trap 'rm -rf "$work"' EXIT
+    "$bench" -g 100000000 > "$work/capture"
+    cat << END
+
+100 MB of valid strings, seconds of the best of three runs:
+
+| program | to /dev/null | to a file |
+|---|---:|---:|
+| list_times | $(best /dev/null "$list_times") | $(best "$work/out" "$list_times") |
+| cat | $(best /dev/null cat) | $(best "$work/out" cat) |
+END
+fi

@@ -64,7 +64,8 @@ static inline bool are_digits(const uint8_t *s) { return is_digit(s[0]) && is_di
 
 static inline unsigned pair(const uint8_t *s) { return s[0] * 10u + s[1] - 11 * '0'; }
 
-static inline bool is_flag(uint8_t byte, char letter) { return byte == ' ' || byte == letter; }
+/* Which of the two it is cannot be foreseen, so the choice costs no branch; the same holds of signs. */
+static inline bool is_flag(uint8_t byte, char letter) { return (byte == ' ') | (byte == letter); }
 
 /* What the digits of all four kinds still can have wrong: 5, 6, 7, then 20. */
 static inline uint8_t time_error(const struct time *t, bool wrong_leap_letter, size_t room, size_t needed)
@@ -176,20 +177,18 @@ static uint8_t read_pzf(const uint8_t *s, size_t n, int32_t *fields, size_t room
     return 0;
 }
 
-/* A whole part of so many places, right-aligned with blanks for leading zeros; -1 where it isn't one. */
+/* A whole part of so many places, right-aligned; a place before the last is blank exactly if the number up to it is 0.
+ * -1 where it isn't one. */
 static inline int whole_part(const uint8_t *s, int places)
 {
-    int i = 0, value = 0;
-    while (i < places - 1 && s[i] == ' ')
-        i++;
-    if (s[i] == '0' && i < places - 1)
-        return -1;
-    for (; i < places; i++) {
-        if (!is_digit(s[i]))
-            return -1;
-        value = 10 * value + (s[i] - '0');
+    unsigned value = 0, wrong = 0;
+    for (int i = 0; i < places - 1; i++) {
+        unsigned blank = s[i] == ' ', digit = blank ? 0 : s[i] - (unsigned)'0';
+        value = 10 * value + digit;
+        wrong |= (digit > 9) | (blank != (value == 0));
     }
-    return value;
+    wrong |= !is_digit(s[places - 1]);
+    return wrong != 0 ? -1 : (int)(10 * value) + s[places - 1] - '0';
 }
 
 /* Degrees with a whole part of so many places, a point, four digits and a letter; false where they are no angle. */
@@ -197,12 +196,12 @@ static inline bool read_angle(const uint8_t *s, int places, int most, char above
 {
     const uint8_t *d = s + places + 1;
     int whole = whole_part(s, places);
-    if (whole < 0 || !are_digits(d) || !are_digits(d + 2) || (d[4] != above && d[4] != below))
+    if (whole < 0 || !are_digits(d) || !are_digits(d + 2) || ((d[4] != above) & (d[4] != below)))
         return false;
-    int value = 10000 * whole + (int)(100 * pair(d) + pair(d + 2));
-    if (value > most || (value == 0 && d[4] == below))
+    int value = 10000 * whole + (int)(100 * pair(d) + pair(d + 2)), sign = 1 - 2 * (d[4] == below);
+    if (value > most || (value == 0 && sign < 0))
         return false;
-    *angle = d[4] == below ? -value : value;
+    *angle = sign * value;
     return true;
 }
 
@@ -219,7 +218,7 @@ static uint8_t read_gps(const uint8_t *s, size_t n, int32_t *fields, size_t room
         return 4;
     unsigned minutes = pair(s + 28), size = 60 * pair(s + 25) + minutes;
     bool minus = s[24] == '-';
-    if ((s[24] != '+' && !minus) || minutes > 59 || size > 840 || (minus && size == 0))
+    if (((s[24] != '+') & !minus) || minutes > 59 || size > 840 || (minus && size == 0))
         return 8;
     int32_t latitude, longitude, height = whole_part(s + 60, 4);
     if (!read_angle(s + 41, 2, 900000, 'N', 'S', &latitude) || !read_angle(s + 50, 3, 1800000, 'E', 'W', &longitude) ||
@@ -301,10 +300,8 @@ static inline bool within(int32_t value, int32_t least, int32_t most) { return l
 /* A valid reading: year, date, time of day, weekday, offset, and flags of 0 or 1. */
 static inline bool is_reading(const int32_t *f)
 {
-    for (int i = 8; i < 14; i++)
-        if (!within(f[i], 0, 1))
-            return false;
-    return within(f[0], 1970, 2069) && within(f[1], 1, 12) && within(f[2], 1, 31) && within(f[3], 1, 7) &&
+    int32_t flags = f[8] | f[9] | f[10] | f[11] | f[12] | f[13];
+    return within(flags, 0, 1) && within(f[0], 1970, 2069) && within(f[1], 1, 12) && within(f[2], 1, 31) && within(f[3], 1, 7) &&
            within(f[4], 0, 23) && within(f[5], 0, 59) && within(f[6], 0, 60) && within(f[7], -840, 840) &&
            is_date((unsigned)f[0], (unsigned)f[1], (unsigned)f[2]) &&
            is_time_of_day((unsigned)f[4], (unsigned)f[5], (unsigned)f[6], f[7]);
@@ -473,55 +470,71 @@ struct minute {
     unsigned year, month, day, weekday, hour, minute;
 };
 
-static inline unsigned bits2(const uint8_t *m) { return m[0] + 2u * m[1]; }
-static inline unsigned bits3(const uint8_t *m) { return bits2(m) + 4u * m[2]; }
-static inline unsigned bits4(const uint8_t *m) { return bits3(m) + 8u * m[3]; }
-
-static inline unsigned parity(const uint8_t *m, int count)
+/* Mark i is bit i. A caller hands on marks of 0 and 1 only if *any comes out as 0 or 1. */
+static inline uint64_t pack(const uint8_t *m, size_t n, unsigned *any)
 {
-    unsigned odd = 0;
-    for (int i = 0; i < count; i++)
-        odd ^= m[i];
-    return odd;
+    uint64_t bits = 0;
+    unsigned all = 0;
+    for (const uint8_t *p = m + n; p != m;) {
+        unsigned mark = *--p;
+        all |= mark;
+        bits = 2 * bits + mark;
+    }
+    *any = all;
+    return bits;
+}
+
+/* The number in so many bits from a mark on. */
+static inline unsigned bits_from(uint64_t bits, int mark, int count)
+{
+    return (unsigned)(bits >> mark) & ((1u << count) - 1);
+}
+
+static inline bool is_odd(unsigned bits)
+{
+    bits ^= bits >> 16;
+    bits ^= bits >> 8;
+    bits ^= bits >> 4;
+    return (0x6996 >> (bits & 15) & 1) != 0;
 }
 
 /* The order for a minute: 11, 12, 13, 14, 15, 16, 17, 18, 7, 5, 6, 19. */
-static inline uint8_t minute_error(const uint8_t *m, size_t n, struct minute *t)
+static inline uint8_t minute_error(const uint8_t *m, size_t n, uint64_t *packed, struct minute *t)
 {
     if (n != 59 && n != 60)
         return 11;
-    unsigned any = n == 60 ? m[59] : 0;
-    for (int i = 0; i < 59; i++)
-        any |= m[i];
+    unsigned any;
+    uint64_t bits = pack(m, n, &any);
+    *packed = bits;
     if (any > 1)
         return 12;
-    if (m[0] != 0 || m[20] != 1)
+    if (bits_from(bits, 0, 1) != 0 || bits_from(bits, 20, 1) != 1)
         return 13;
-    if (m[17] == m[18])
+    if (bits_from(bits, 17, 1) == bits_from(bits, 18, 1))
         return 14;
-    if (parity(m + 21, 8) != 0)
+    if (is_odd(bits_from(bits, 21, 8)))
         return 15;
-    if (parity(m + 29, 7) != 0)
+    if (is_odd(bits_from(bits, 29, 7)))
         return 16;
-    if (parity(m + 36, 23) != 0)
+    if (is_odd(bits_from(bits, 36, 23)))
         return 17;
-    unsigned minute = bits4(m + 21), hour = bits4(m + 29), day = bits4(m + 36), month = bits4(m + 45);
-    unsigned year = bits4(m + 50), decade = bits4(m + 54);
+    unsigned minute = bits_from(bits, 21, 4), hour = bits_from(bits, 29, 4), day = bits_from(bits, 36, 4);
+    unsigned month = bits_from(bits, 45, 4), year = bits_from(bits, 50, 4), decade = bits_from(bits, 54, 4);
     if (minute > 9 || hour > 9 || day > 9 || month > 9 || year > 9 || decade > 9)
         return 18;
     t->year = full_year(year + 10 * decade);
-    t->month = month + 10u * m[49];
-    t->day = day + 10 * bits2(m + 40);
-    t->weekday = bits3(m + 42);
-    t->hour = hour + 10 * bits2(m + 33);
-    t->minute = minute + 10 * bits3(m + 25);
+    t->month = month + 10 * bits_from(bits, 49, 1);
+    t->day = day + 10 * bits_from(bits, 40, 2);
+    t->weekday = bits_from(bits, 42, 3);
+    t->hour = hour + 10 * bits_from(bits, 33, 2);
+    t->minute = minute + 10 * bits_from(bits, 25, 3);
     if (t->weekday == 0)
         return 7;
     if (!is_date(t->year, t->month, t->day))
         return 5;
     if (t->hour >= 24 || t->minute >= 60)
         return 6;
-    if (n == 60 && (m[19] != 1 || m[59] != 0 || t->minute != 0))
+    if (n == 60 && (bits_from(bits, 19, 1) != 1 || bits_from(bits, 59, 1) != 0 || t->minute != 0))
         return 19;
     return 0;
 }
@@ -529,14 +542,12 @@ static inline uint8_t minute_error(const uint8_t *m, size_t n, struct minute *t)
 uint8_t reference_read_minute(const uint8_t *marks, size_t n, int32_t *fields, size_t room)
 {
     struct minute t;
-    uint8_t error = minute_error(marks, n, &t);
+    uint64_t bits;
+    uint8_t error = minute_error(marks, n, &bits, &t);
     if (error != 0)
         return error;
     if (room < 16)
         return 20;
-    int32_t first = 0;
-    for (int i = 14; i > 0; i--)
-        first = 2 * first + marks[i];
     fields[0] = (int32_t)t.year;
     fields[1] = (int32_t)t.month;
     fields[2] = (int32_t)t.day;
@@ -551,9 +562,17 @@ uint8_t reference_read_minute(const uint8_t *marks, size_t n, int32_t *fields, s
     fields[11] = marks[16];
     fields[12] = marks[19];
     fields[13] = marks[15];
-    fields[14] = first;
+    fields[14] = (int32_t)bits_from(bits, 1, 14);
     fields[15] = n == 60;
     return 0;
+}
+
+static inline unsigned parity(const uint8_t *m, int count)
+{
+    unsigned odd = 0;
+    for (int i = 0; i < count; i++)
+        odd ^= m[i];
+    return odd;
 }
 
 /* The lowest bits of a value, lowest first. */
@@ -606,7 +625,8 @@ uint8_t reference_write_minute(const int32_t *fields, size_t count, uint8_t *out
 static uint32_t run_number(const uint8_t *m, size_t n)
 {
     struct minute t;
-    uint8_t error = minute_error(m, n, &t);
+    uint64_t bits;
+    uint8_t error = minute_error(m, n, &bits, &t);
     if (error != 0)
         return error;
     uint32_t local = 1440 * day_number(t.year, t.month, t.day) + 60 * t.hour + t.minute;
@@ -689,7 +709,7 @@ uint8_t reference_correct_mark(uint8_t *marks, size_t n, uint32_t *outcomes, siz
     return 0;
 }
 
-/* The serial feed. */
+/* The serial feed. Runs of plain bytes are kept or passed over at once; then comes STX, ETX or the byte too many. */
 
 uint8_t reference_feed(uint8_t *state, size_t size, const uint8_t *s, size_t n, size_t limit, size_t *taken,
                        uint8_t *event)
@@ -699,26 +719,33 @@ uint8_t reference_feed(uint8_t *state, size_t size, const uint8_t *s, size_t n, 
     size_t end = n < limit ? n : limit, i = 0;
     unsigned count = state[COUNT], mode = count > KEPT ? OUTSIDE : state[MODE];
     uint8_t found = 0;
-    while (i < end && found == 0) {
+    for (;;) {
+        if (mode == INSIDE) {
+            size_t stop = end - i < KEPT - count ? end : i + (KEPT - count);
+            while (i < stop && s[i] != STX && s[i] != ETX)
+                state[count++] = s[i++];
+        } else {
+            while (i < end && s[i] != STX && s[i] != ETX)
+                i++;
+        }
+        if (i == end)
+            break;
         uint8_t byte = s[i++];
         if (byte == STX) {
             state[0] = STX;
             count = 1;
             mode = INSIDE;
-        } else if (mode == INSIDE) {
-            if (count == KEPT) {
-                mode = byte == ETX ? OUTSIDE : OVERLONG;
-                found = byte == ETX ? DROPPED : 0;
-            } else {
-                state[count++] = byte;
-                if (byte == ETX) {
-                    mode = OUTSIDE;
-                    found = (uint8_t)count;
-                }
-            }
-        } else if (mode == OVERLONG && byte == ETX) {
+        } else if (byte != ETX) {
+            mode = OVERLONG;
+        } else if (mode == INSIDE && count < KEPT) {
+            state[count++] = ETX;
+            mode = OUTSIDE;
+            found = (uint8_t)count;
+            break;
+        } else if (mode == INSIDE || mode == OVERLONG) {
             mode = OUTSIDE;
             found = DROPPED;
+            break;
         }
     }
     state[COUNT] = (uint8_t)count;

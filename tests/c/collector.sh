@@ -1,0 +1,68 @@
+#!/usr/bin/env bash
+# collector.sh COLLECTOR SAMPLES: the samples are what SAMPLES makes, and the collector prints what it must, on them and
+# on a serial line; each failure is told.
+set -euo pipefail
+collector=$(realpath "$1")
+make_samples=$(realpath "$2")
+cd "$(dirname "$0")/../../samples"
+work=$(mktemp -d)
+trap 'rm -rf "$work"' EXIT
+
+"$make_samples" "$work"
+cmp "$work/elv.bin" elv.bin
+cmp "$work/marks.bin" marks.bin
+
+"$collector" -e elv.bin -m marks.bin > "$work/out" 2> "$work/err"
+diff collector.txt "$work/out"
+diff - "$work/err" << 'END'
+collector: elv.bin: place 42: refused 6: no such time of day
+collector: marks.bin: place 246: refused 12: a mark in the run is neither short nor long
+collector: 7 times, 2 refused
+END
+
+# The listing's two strings, a string cut short, an overlong one, a leap second after the second after it.
+{
+    printf '\002D:08.11.06;T:3;U:14.39.39;    \003\r\n\00208.11.06; 3; 24:00:00; U      \003'
+    printf '\00201.01.17; 7; 00:5\00201.01.17; 7; 01:00:00;        \003\002%070d\003' 0
+    printf '\00201.01.17; 7; 00:59:60;        \003'
+    printf '\00209.07.93; 5; 08:48:26; -03:30; #*S!AR ; 49.5736N  11.0280E  373m\003'
+} | "$collector" -s - > "$work/out" 2> "$work/err"
+diff - "$work/out" << 'END'
+UTC                  local               zone   flags    file
+1993-07-09 12:18:26  1993-07-09 08:48:26 -03:30 #*S!AR-  -
+2006-11-08 13:39:39  2006-11-08 14:39:39 +01:00 -------  -
+2016-12-31 23:59:60  2017-01-01 00:59:60 +01:00 ------L  -
+2017-01-01 00:00:00  2017-01-01 01:00:00 +01:00 -------  -
+END
+diff - "$work/err" << 'END'
+collector: -: place 34: refused 6: no such time of day
+collector: -: place 188: overlong string dropped
+collector: 4 times, 2 refused
+END
+
+# Empty files, ELV strings with LF, and what is wrong with a call.
+: > "$work/empty"
+"$collector" -s "$work/empty" -e "$work/empty" -m "$work/empty" 2> "$work/err" | cmp - <(head -1 collector.txt)
+printf '06-11-08-14-39-39-00\r\n06-11-08-14-39-40-00\r\n06-11' | "$collector" -e - 2> "$work/err" | grep -c 2006 | grep -qx 2
+grep -q 'place 44: refused 1: string length wrong' "$work/err"
+fails() {
+    local status=$1 text=$2
+    shift 2
+    local got=0
+    "$@" > /dev/null 2> "$work/err" || got=$?
+    if [ "$got" != "$status" ] || ! grep -q "$text" "$work/err"; then
+        echo "$*: status $got, $(head -1 "$work/err")"
+        exit 1
+    fi
+}
+fails 2 '^usage: ' "$collector"
+fails 2 '^usage: ' "$collector" -s
+fails 2 'no such option: -x' "$collector" -x "$work/empty"
+fails 1 'No such file' "$collector" -m "$work/none"
+fails 1 'directory' "$collector" -m "$work"
+if [ -w /dev/full ]; then
+    got=0
+    "$collector" -e elv.bin > /dev/full 2> "$work/err" || got=$?
+    [ "$got" = 1 ] && grep -q 'standard output: cannot be written' "$work/err"
+fi
+echo "the collector prints what it must"

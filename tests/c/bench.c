@@ -1,11 +1,7 @@
-/* Times the library and the reference in one process, on the same varied valid inputs.
- *
- *     bench                    a line for each row: its name, nanoseconds of the library and of plain C
- *     bench -c ROW SIDE        4,096 calls of a row alone, by 'library' or 'reference', for counting instructions;
- *                              prints the function called and how many units the calls are
- *     bench -g BYTES           writes so many bytes of valid Meinberg strings to standard output
- *
- * A row's time is the best of many rounds, in which the two sides take turns. */
+/* bench: times the library and the reference in one process on the same valid inputs. Prints a line for each row: its
+ * name, and nanoseconds of both, each the best of many rounds in which they take turns. 'bench -c ROW SIDE' runs a row
+ * by one side alone, for counting instructions; it prints the function called and for how many units that counts.
+ * 'bench -g BYTES' writes so many bytes of valid Meinberg strings. */
 #define _POSIX_C_SOURCE 200809L
 #include <stdbool.h>
 #include <stdio.h>

@@ -32,15 +32,15 @@ cat << END
 
 Measured on $processor, plain C by $("${CC:-cc}" --version | head -1) at -O2. \`make bench\` prints this page.
 
-The library and a plain C implementation of the same rules ([reference.c](../tests/c/reference.c)) run in one process on the
-same varied valid inputs and take turns; a time is the best of 400 rounds. Instructions are those inside the function, by
-callgrind, and come out the same each time.
+The library and a plain C implementation of the same rules ([reference.c](../tests/c/reference.c)) run in one process on
+the same varied valid inputs and take turns; a time is the best of 400 rounds. Instructions are those inside the
+function, by callgrind, and come out the same each time. A ratio is that of the library to plain C.
 
 | call | library, ns | plain C, ns | ratio | library, instructions | plain C, instructions | ratio |
 |---|---:|---:|---:|---:|---:|---:|
 END
 "$bench" | while IFS=$'\t' read -r name library reference; do
-    counts="| | |"
+    counts=" | | "
     if command -v valgrind > /dev/null; then
         ours=$(instructions "$name" library)
         theirs=$(instructions "$name" reference)

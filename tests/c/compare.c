@@ -1,9 +1,6 @@
-/* Compares the library with the reference: answers, all lent memory, and the memory around it.
- *
- *     compare [-n INPUTS] [-s SEED] [-c CASE]
- *
- * Prints the seed and how often each answer came, and fails at the first difference, naming its case; -c runs that case
- * alone. It fails too where one of the refusal numbers 1 to 23 never came. */
+/* compare [-n CASES] [-s SEED] [-c CASE]: compares the library with the reference, in answers, in all lent memory and
+ * in the memory around it. Prints the seed and how often each answer came. Fails at the first difference, whose case -c
+ * runs alone, and where one of the refusal numbers 1 to 23 never came. */
 #define _POSIX_C_SOURCE 200809L
 #include <inttypes.h>
 #include <signal.h>

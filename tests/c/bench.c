@@ -1,7 +1,7 @@
 /* bench: times the library and the reference in one process on the same valid inputs. Prints a line for each row: its
- * name, and nanoseconds of both, each the best of many rounds in which they take turns. 'bench -c ROW SIDE' runs a row
- * by one side alone, for counting instructions; it prints the function called and for how many units that counts.
- * 'bench -g BYTES' writes so many bytes of valid Meinberg strings. */
+ * name, and nanoseconds of both, each the best of many rounds in which they take turns. 'bench -c ROW SIDE ROUNDS' runs
+ * a row by one side alone, for counting instructions; it prints the function called and for how many units that
+ * counts. 'bench -g BYTES' writes so many bytes of valid Meinberg strings. */
 #define _POSIX_C_SOURCE 200809L
 #include <stdbool.h>
 #include <stdio.h>
@@ -210,14 +210,14 @@ static void time_row(const struct row *row)
     fflush(stdout);
 }
 
-static int run_alone(const char *name, const char *side_name)
+static int run_alone(const char *name, const char *side_name, int rounds)
 {
     for (int r = 0; r < ROWS; r++) {
         if (strcmp(name, rows[r].name) != 0)
             continue;
         const struct side *side = &sides[strcmp(side_name, "reference") == 0];
         double units = 0;
-        for (int i = 0; i < 4; i++)
+        for (int i = 0; i < rounds; i++)
             units += rows[r].run(side, rows[r].argument);
         printf("%s_%s %.0f\n", side == &sides[1] ? "reference" : "radio_clock", rows[r].function, units);
         return refused != 0;
@@ -245,8 +245,8 @@ int main(int argc, char **argv)
     if (argc == 3 && strcmp(argv[1], "-g") == 0)
         return write_line((size_t)strtoull(argv[2], NULL, 10));
     make_inputs();
-    if (argc == 4 && strcmp(argv[1], "-c") == 0)
-        return run_alone(argv[2], argv[3]);
+    if (argc == 5 && strcmp(argv[1], "-c") == 0)
+        return run_alone(argv[2], argv[3], atoi(argv[4]));
     for (int r = 0; r < ROWS; r++)
         time_row(&rows[r]);
     if (refused != 0) {

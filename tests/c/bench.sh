@@ -6,13 +6,25 @@ bench=$1
 list_times=${2:-}
 processor=$(sed -n 's/^model name[[:space:]]*: //p' /proc/cpuinfo | head -1)
 
-# The instructions of one unit of a row by one side: those collected inside the function called, by the units.
+# The instructions inside the function that a row calls, over so many rounds.
+collected() {
+    valgrind --tool=callgrind --callgrind-out-file=/dev/null --toggle-collect="$1" "$bench" -c "$2" "$3" "$4" 2>&1 \
+        > /dev/null | sed -n 's/.*Collected : //p'
+}
+
+# Those of one unit of a row by one side. What it takes to make the inputs is in a run of no rounds.
 instructions() {
-    local called units collected
-    read -r called units < <("$bench" -c "$1" "$2")
-    collected=$(valgrind --tool=callgrind --callgrind-out-file=/dev/null --toggle-collect="$called" \
-        "$bench" -c "$1" "$2" 2>&1 > /dev/null | sed -n 's/.*Collected : //p')
-    awk -v all="$collected" -v units="$units" 'BEGIN { printf "%.1f", all / units }'
+    local called units all none
+    read -r called units < <("$bench" -c "$1" "$2" 4)
+    all=$(collected "$called" "$1" "$2" 4)
+    none=$(collected "$called" "$1" "$2" 0)
+    awk -v all="$all" -v none="${none:-0}" -v units="$units" 'BEGIN { printf "%.1f", (all - none) / units }'
+}
+
+# Two numbers and their ratio as cells of the table.
+pair() {
+    awk -v a="$1" -v b="$2" 'function short(x) { return sprintf(x < 10 ? "%.2f" : x < 1000 ? "%.1f" : "%d", x) }
+        BEGIN { printf "%s | %s | %.2f", short(a), short(b), a / b }'
 }
 
 # Seconds of the best of three runs, with the file as input.
@@ -44,10 +56,9 @@ END
     if command -v valgrind > /dev/null; then
         ours=$(instructions "$name" library)
         theirs=$(instructions "$name" reference)
-        counts=$(awk -v a="$ours" -v b="$theirs" 'BEGIN { printf "%s | %s | %.2f", a, b, a / b }')
+        counts=$(pair "$ours" "$theirs")
     fi
-    awk -v name="$name" -v a="$library" -v b="$reference" -v counts="$counts" \
-        'BEGIN { printf "| %s | %s | %s | %.2f | %s |\n", name, a, b, a / b, counts }'
+    echo "| $name | $(pair "$library" "$reference") | $counts |"
 done
 if [ -x "$list_times" ]; then
     work=$(mktemp -d)

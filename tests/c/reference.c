@@ -302,8 +302,8 @@ static inline bool is_reading(const int32_t *f)
 {
     int32_t flags = f[8] | f[9] | f[10] | f[11] | f[12] | f[13];
     return within(flags, 0, 1) && within(f[0], 1970, 2069) && within(f[1], 1, 12) && within(f[2], 1, 31) &&
-           within(f[3], 1, 7) && within(f[4], 0, 23) && within(f[5], 0, 59) && within(f[6], 0, 60) && within(f[7], -840, 840) &&
-           is_date((unsigned)f[0], (unsigned)f[1], (unsigned)f[2]) &&
+           within(f[3], 1, 7) && within(f[4], 0, 23) && within(f[5], 0, 59) && within(f[6], 0, 60) &&
+           within(f[7], -840, 840) && is_date((unsigned)f[0], (unsigned)f[1], (unsigned)f[2]) &&
            is_time_of_day((unsigned)f[4], (unsigned)f[5], (unsigned)f[6], f[7]);
 }
 

@@ -177,32 +177,35 @@ static uint8_t read_pzf(const uint8_t *s, size_t n, int32_t *fields, size_t room
     return 0;
 }
 
-/* A whole part of so many places, right-aligned; a place before the last is blank exactly if the number up to it is 0.
- * -1 where it isn't one. */
-static inline int whole_part(const uint8_t *s, int places)
+/* A number with one more digit. */
+static inline unsigned with_digit(unsigned value, uint8_t byte, unsigned *wrong)
 {
-    unsigned value = 0, wrong = 0;
-    for (int i = 0; i < places - 1; i++) {
-        unsigned blank = s[i] == ' ', digit = blank ? 0 : s[i] - (unsigned)'0';
-        value = 10 * value + digit;
-        wrong |= (digit > 9) | (blank != (value == 0));
-    }
-    wrong |= !is_digit(s[places - 1]);
-    return wrong != 0 ? -1 : (int)(10 * value) + s[places - 1] - '0';
+    unsigned digit = byte - (unsigned)'0';
+    *wrong |= digit > 9;
+    return 10 * value + digit;
 }
 
-/* Degrees with a whole part of so many places, a point, four digits and a letter; false where they are no angle. */
-static inline bool read_angle(const uint8_t *s, int places, int most, char above, char below, int32_t *angle)
+/* The same for a place that is blank exactly if the number up to it is 0. */
+static inline unsigned with_leading(unsigned value, uint8_t byte, unsigned *wrong)
 {
-    const uint8_t *d = s + places + 1;
-    int whole = whole_part(s, places);
-    if (whole < 0 || !are_digits(d) || !are_digits(d + 2) || ((d[4] != above) & (d[4] != below)))
-        return false;
-    int value = 10000 * whole + (int)(100 * pair(d) + pair(d + 2)), sign = 1 - 2 * (d[4] == below);
-    if (value > most || (value == 0 && sign < 0))
-        return false;
-    *angle = sign * value;
-    return true;
+    unsigned blank = byte == ' ', digit = blank ? 0 : byte - (unsigned)'0';
+    value = 10 * value + digit;
+    *wrong |= (digit > 9) | (blank != (value == 0));
+    return value;
+}
+
+/* The last whole digit, a point, four digits and a letter. */
+static inline int32_t read_angle(unsigned value, const uint8_t *s, unsigned most, char above, char below,
+                                 unsigned *wrong)
+{
+    value = with_digit(value, s[0], wrong);
+    value = with_digit(value, s[2], wrong);
+    value = with_digit(value, s[3], wrong);
+    value = with_digit(value, s[4], wrong);
+    value = with_digit(value, s[5], wrong);
+    unsigned minus = s[6] == below;
+    *wrong |= (value > most) | ((s[6] != above) & !minus) | ((value == 0) & minus);
+    return minus ? -(int32_t)value : (int32_t)value;
 }
 
 static uint8_t read_gps(const uint8_t *s, size_t n, int32_t *fields, size_t room)
@@ -220,9 +223,13 @@ static uint8_t read_gps(const uint8_t *s, size_t n, int32_t *fields, size_t room
     bool minus = s[24] == '-';
     if (((s[24] != '+') & !minus) || minutes > 59 || size > 840 || (minus && size == 0))
         return 8;
-    int32_t latitude, longitude, height = whole_part(s + 60, 4);
-    if (!read_angle(s + 41, 2, 900000, 'N', 'S', &latitude) || !read_angle(s + 50, 3, 1800000, 'E', 'W', &longitude) ||
-        height < 0)
+    unsigned wrong = 0, east = with_leading(with_leading(0, s[50], &wrong), s[51], &wrong), height = 0;
+    int32_t latitude = read_angle(with_leading(0, s[41], &wrong), s + 42, 900000, 'N', 'S', &wrong);
+    int32_t longitude = read_angle(east, s + 52, 1800000, 'E', 'W', &wrong);
+    for (int i = 60; i < 63; i++)
+        height = with_leading(height, s[i], &wrong);
+    height = with_digit(height, s[63], &wrong);
+    if (wrong != 0)
         return 9;
     struct time t = erlangen_time(s, minus ? -(int)size : (int)size);
     uint8_t error = time_error(&t, (s[38] == 'L') != (t.second == 60), room, 17);
@@ -232,7 +239,7 @@ static uint8_t read_gps(const uint8_t *s, size_t n, int32_t *fields, size_t room
     put_erlangen_flags(s + 32, fields);
     fields[14] = latitude;
     fields[15] = longitude;
-    fields[16] = height;
+    fields[16] = (int32_t)height;
     return 0;
 }
 

@@ -477,17 +477,22 @@ struct minute {
     unsigned year, month, day, weekday, hour, minute;
 };
 
-/* Mark i is bit i. A caller hands on marks of 0 and 1 only if *any comes out as 0 or 1. */
-static inline uint64_t pack(const uint8_t *m, size_t n, unsigned *any)
+/* Eight marks as eight bits, the first lowest; the machine is little-endian, as the library's archive asks for. Bits of
+ * marks above 1 mean nothing, but *any then has more than the lowest bit of a byte. */
+static inline uint64_t pack8(const uint8_t *m, uint64_t *any)
 {
-    uint64_t bits = 0;
-    unsigned all = 0;
-    for (const uint8_t *p = m + n; p != m;) {
-        unsigned mark = *--p;
-        all |= mark;
-        bits = 2 * bits + mark;
-    }
-    *any = all;
+    uint64_t word;
+    memcpy(&word, m, 8);
+    *any |= word;
+    return word * 0x0102040810204080u >> 56;
+}
+
+/* Mark i of 59 or 60 is bit i. The last eight marks overlap those before them. */
+static inline uint64_t pack(const uint8_t *m, size_t n, uint64_t *any)
+{
+    uint64_t bits = pack8(m + n - 8, any) << (n - 8);
+    for (int i = 0; i < 56; i += 8)
+        bits |= pack8(m + i, any) << i;
     return bits;
 }
 
@@ -510,10 +515,9 @@ static inline uint8_t minute_error(const uint8_t *m, size_t n, uint64_t *packed,
 {
     if (n != 59 && n != 60)
         return 11;
-    unsigned any;
-    uint64_t bits = pack(m, n, &any);
+    uint64_t any = 0, bits = pack(m, n, &any);
     *packed = bits;
-    if (any > 1)
+    if ((any & 0xfefefefefefefefeu) != 0)
         return 12;
     if (bits_from(bits, 0, 1) != 0 || bits_from(bits, 20, 1) != 1)
         return 13;

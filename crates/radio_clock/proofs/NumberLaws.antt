@@ -19,7 +19,8 @@ use Rattle.clock_time.specs.Same.{eqℤ}
 use Rattle.clock_time.proofs.Tests.{both}
 use Rattle.dcf77.specs.declared.MinuteTime.{MinuteTime}
 use Rattle.radio_clock.specs.Called.{called, left}
-use Rattle.radio_clock.specs.Numbers.{timeNumbers, minuteNumbers, putNumbers, within, natural, short, sameNumbers, numbered}
+use Rattle.radio_clock.specs.Numbers.{timeNumbers, minuteNumbers, putNumbers, within, natural, short}
+use Rattle.radio_clock.specs.Numbers.{sameNumbers, numbered}
 
 -- ---- a number in a range
 module _ (m : ℕ) (z : ℤ) where
@@ -119,6 +120,10 @@ unfolding minuteNumbers timeNumbers
 first-16 a r = refl
 
 module _ {A : Type 0} (numbers : A → List ℤ) (from : List ℤ → A) (z : List ℤ) where
+  pub numbered-length : (length (numbers (from z)) ≡ length z → ⊥) → refused 23 ≡ numbered numbers from z
+  unfolding numbered
+  numbered-length h = rw (sameNumbers-false (numbers (from z)) z (λ e. h (ap length e)))
+
   pub numbered-same : sameNumbers (numbers (from z)) z ≡ true → accepted (from z) ≡ numbered numbers from z
   unfolding numbered
   numbered-same h = rw h

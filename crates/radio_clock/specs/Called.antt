@@ -15,8 +15,8 @@ abbrev pub statusOf : {A : Type 0} → Answer A → ℕ
 statusOf (accepted a) = 0
 statusOf (refused k) = k
 
--- "A refusal hands back its number and nothing else, and changes no byte or number of the memory lent." (demand 1): what
--- stands behind a pointer that was lent for the answer
+-- "A refusal hands back its number and nothing else, and changes no byte or number of the memory lent." (demand 1):
+-- what stands behind a pointer that was lent for the answer
 abbrev pub behind : {A : Type 0} → A → Answer A → A
 behind old (accepted a) = a
 behind old (refused k) = old

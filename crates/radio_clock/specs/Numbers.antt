@@ -17,8 +17,8 @@ abbrev pub flag : Bool → ℤ
 flag on = cond on (pos 1) (pos 0)
 
 -- "Year, month, day, weekday (1 Monday to 7 Sunday), hour, minute, second, offset in minutes (local minus UTC, signed),
--- and six flags: unsynchronised, unverified, summer time, change coming, leap second coming, alternate antenna." (01, The
--- reading)
+-- and six flags: unsynchronised, unverified, summer time, change coming, leap second coming, alternate antenna." (01,
+-- The reading)
 unfoldable pub timeNumbers : ClockTime → List ℤ
 timeNumbers t =
     pos (t .year)

@@ -48,10 +48,14 @@ readingNumbers (timeAndPosition g) = gpsNumbers g
 abbrev pub putReading : List ℤ → Answer Reading → Exit (Unit {0}) (List ℤ)
 putReading lent a = leaving lent a (λ r. putNumbers (readingNumbers r) lent)
 
+-- "The caller names the kind; an unknown kind number from C gives 1." (01, Meinberg and ELV strings)
+unfoldable pub readNumbered : ℕ → List ℕ → Answer Reading
+readNumbered n s = andThen (kindNamed n) (λ kind. readAs kind s)
+
 -- "a data collector written in C calls them on numbers and byte slices" (01, Which form belongs where): as the kind's
 -- reader, and then 20 where there is no room
 unfoldable pub readInto : ℕ → List ℕ → List ℤ → Exit (Unit {0}) (List ℤ)
-readInto n s lent = leaving lent (kindNamed n) (λ kind. putReading lent (readAs kind s))
+readInto n s lent = putReading lent (readNumbered n s)
 
 -- ---- writing
 -- as the kind's writer, after 23 where the numbers are no reading's

@@ -78,7 +78,8 @@ pub extern "C" fn radio_clock_feed(
 ) -> u8
     ensures { λ r. ⌜
         called r (feedMemory (now (state .exit)) (now (taken .exit)) (now (event .exit)))
-        ≡ left (feedInto (feedMemory (now (state .entry)) (now (taken .entry)) (now (event .entry))) (now (s .entry)) limit)
+        ≡ left
+        (feedInto (feedMemory (now (state .entry)) (now (taken .entry)) (now (event .entry))) (now (s .entry)) limit)
         ⌝ }
 {
     if state.len() < 68 {

@@ -10,7 +10,7 @@ use meinberg_gps::GpsAnswer;
 use meinberg_gps::GpsTime;
 ghost use mathlib.Core.Path.{_≡_};
 ghost use mathlib.Core.List.{[], _∷_, _++_};
-ghost use Prim.Native.Nat.{_≤_};
+ghost use Prim.Native.Nat.{_≤_, _<_};
 ghost use lib.IntN.{pos};
 ghost use lib.ListN.{length, drop};
 ghost use Rattle.clock_time.specs.Same.{eqℤ};
@@ -140,14 +140,11 @@ pub(crate) fn put_minute(a: MinuteTime, fields: &mut [i32]) -> u8
 
 // ---- from numbers to readings
 
-// The number at a place, 0 past the end.
 fn number_at(z: &[i32], i: usize) -> i32
+    requires { ⌜ i < length (now z) ⌝ }
     ensures { λ r. ⌜ r ≡ at i (now (z .entry)) ⌝ }
 {
-    if i < z.len() {
-        return z[i];
-    }
-    0
+    z[i]
 }
 
 fn is_within(least: i32, most: i32, x: i32) -> bool
@@ -158,6 +155,7 @@ fn is_within(least: i32, most: i32, x: i32) -> bool
 
 // The number from 0 to `most` at a place, else 0.
 fn natural_at(z: &[i32], i: usize, most: u16) -> u16
+    requires { ⌜ i < length (now z) ⌝ }
     ensures { λ r. ⌜ r ≡ natural most (at i (now (z .entry))) ⌝ }
 {
     let x = number_at(z, i);
@@ -168,12 +166,14 @@ fn natural_at(z: &[i32], i: usize, most: u16) -> u16
 }
 
 fn u8_at(z: &[i32], i: usize) -> u8
+    requires { ⌜ i < length (now z) ⌝ }
     ensures { λ r. ⌜ r ≡ natural 255 (at i (now (z .entry))) ⌝ }
 {
     natural_at(z, i, 255) as u8
 }
 
 fn i16_at(z: &[i32], i: usize) -> i16
+    requires { ⌜ i < length (now z) ⌝ }
     ensures { λ r. ⌜ r ≡ short (at i (now (z .entry))) ⌝ }
 {
     let x = number_at(z, i);
@@ -190,12 +190,14 @@ fn same(a: i32, b: i32) -> bool
 }
 
 fn flag_at(z: &[i32], i: usize) -> bool
+    requires { ⌜ i < length (now z) ⌝ }
     ensures { λ r. ⌜ r ≡ isSet (at i (now (z .entry))) ⌝ }
 {
     same(number_at(z, i), 1)
 }
 
 fn time_from(z: &[i32]) -> ClockTime
+    requires { ⌜ 14 ≤ length (now z) ⌝ }
     ensures { λ r. ⌜ r ≡ timeFrom (now (z .entry)) ⌝ }
 {
     ClockTime {
@@ -217,6 +219,7 @@ fn time_from(z: &[i32]) -> ClockTime
 }
 
 fn gps_from(z: &[i32]) -> GpsTime
+    requires { ⌜ 17 ≤ length (now z) ⌝ }
     ensures { λ r. ⌜ r ≡ gpsFrom (now (z .entry)) ⌝ }
 {
     let time = time_from(z);
@@ -229,6 +232,7 @@ fn gps_from(z: &[i32]) -> GpsTime
 }
 
 fn minute_from(z: &[i32]) -> MinuteTime
+    requires { ⌜ 16 ≤ length (now z) ⌝ }
     ensures { λ r. ⌜ r ≡ minuteFrom (now (z .entry)) ⌝ }
 {
     let time = time_from(z);
@@ -259,6 +263,9 @@ fn same_numbers(a: &[i32], b: &[i32]) -> bool
 pub(crate) fn time_of(z: &[i32]) -> ReadAnswer
     ensures { λ r. ⌜ readAnswer r ≡ timeOf (now (z .entry)) ⌝ }
 {
+    if z.len() != 14 {
+        return ReadAnswer::Refused(Error::Unrepresentable);
+    }
     let t = time_from(z);
     let numbers = time_numbers(t);
     if same_numbers(&numbers[..14], z) {
@@ -271,6 +278,9 @@ pub(crate) fn time_of(z: &[i32]) -> ReadAnswer
 pub(crate) fn gps_of(z: &[i32]) -> GpsAnswer
     ensures { λ r. ⌜ gpsAnswer r ≡ gpsOf (now (z .entry)) ⌝ }
 {
+    if z.len() != 17 {
+        return GpsAnswer::Refused(Error::Unrepresentable);
+    }
     let g = gps_from(z);
     let numbers = gps_numbers(g);
     if same_numbers(&numbers, z) {
@@ -283,6 +293,9 @@ pub(crate) fn gps_of(z: &[i32]) -> GpsAnswer
 pub(crate) fn minute_of(z: &[i32]) -> MinuteAnswer
     ensures { λ r. ⌜ minuteAnswer r ≡ minuteOf (now (z .entry)) ⌝ }
 {
+    if z.len() != 16 {
+        return MinuteAnswer::Refused(Error::Unrepresentable);
+    }
     let a = minute_from(z);
     let numbers = minute_numbers(a);
     if same_numbers(&numbers[..16], z) {

@@ -7,13 +7,16 @@ use layout::ReadAnswer;
 use meinberg_gps::GpsAnswer;
 use time_string::Kind;
 use time_string::KindAnswer;
-use time_string::TimeAnswer;
 ghost use mathlib.Core.Path.{_≡_};
+ghost use mathlib.Core.Bool.{false};
+ghost use lib.Dec.{eqb};
 ghost use Rattle.clock_time.specs.Writing.{outcome};
-ghost use Rattle.time_string.specs.Kind.{kindAnswer, timeAnswer};
+ghost use Rattle.time_string.specs.Kind.{kindAnswer, plain, located};
+ghost use Rattle.layout.specs.Text.{readAnswer};
+ghost use Rattle.meinberg_gps.specs.Gps.{gpsAnswer};
 ghost use Rattle.radio_clock.specs.Called.{called, answered, left, counted};
-ghost use Rattle.radio_clock.specs.Strings.{kindNumber, kindNumberOf, kindNamed, putReading, readInto, writeAs};
-ghost use Rattle.radio_clock.specs.Strings.{writeFrom};
+ghost use Rattle.radio_clock.specs.Strings.{kindNumber, kindNumberOf, kindNamed, putReading, readNumbered};
+ghost use Rattle.radio_clock.specs.Strings.{readInto, writeAs, writeFrom};
 
 fn kind_number(k: Kind) -> u8
     ensures { λ r. ⌜ r ≡ kindNumber k ⌝ }
@@ -59,28 +62,55 @@ fn kind_named(n: u8) -> KindAnswer
     KindAnswer::Refused(Error::Length)
 }
 
-fn put_reading(answer: TimeAnswer, fields: &mut [i32]) -> u8
-    ensures { λ r. ⌜ called r (now (fields .exit)) ≡ left (putReading (now (fields .entry)) (timeAnswer answer)) ⌝ }
+fn put_plain(answer: ReadAnswer, fields: &mut [i32]) -> u8
+    ensures { λ r. ⌜
+        called r (now (fields .exit)) ≡ left (putReading (now (fields .entry)) (plain (readAnswer answer)))
+        ⌝ }
 {
     match answer {
-        TimeAnswer::Read(t) => numbers::put_time(t, fields),
-        TimeAnswer::ReadWithPosition(g) => numbers::put_gps(g, fields),
-        TimeAnswer::Refused(e) => clock_time::error_number(e),
+        ReadAnswer::Read(t) => numbers::put_time(t, fields),
+        ReadAnswer::Refused(e) => clock_time::error_number(e),
     }
+}
+
+fn put_located(answer: GpsAnswer, fields: &mut [i32]) -> u8
+    ensures { λ r. ⌜
+        called r (now (fields .exit)) ≡ left (putReading (now (fields .entry)) (located (gpsAnswer answer)))
+        ⌝ }
+{
+    match answer {
+        GpsAnswer::Read(g) => numbers::put_gps(g, fields),
+        GpsAnswer::Refused(e) => clock_time::error_number(e),
+    }
+}
+
+// Reads a string of a kind that has no position, or gives 1.
+fn read_plain(kind: u8, s: &[u8]) -> ReadAnswer
+    requires { ⌜ eqb kind 2 ≡ false ⌝ }
+    ensures { λ r. ⌜ plain (readAnswer r) ≡ readNumbered kind (now (s .entry)) ⌝ }
+{
+    if kind == 0 {
+        return meinberg_standard::read_standard(s);
+    }
+    if kind == 1 {
+        return meinberg_pzf::read_pzf(s);
+    }
+    if kind == 3 {
+        return elv_dcf7000::read_elv(s);
+    }
+    ReadAnswer::Refused(Error::Length)
 }
 
 // Reads a string of the kind that a number names into the first of the numbers lent: 1 for no such kind, as the kind's
 // reader refuses, 20 where there is no room.
 #[no_mangle]
 pub extern "C" fn radio_clock_read(kind: u8, s: &[u8], fields: &mut [i32]) -> u8
-    ensures { λ r. ⌜
-        called r (now (fields .exit)) ≡ left (readInto kind (now (s .entry)) (now (fields .entry)))
-        ⌝ }
+    ensures { λ r. ⌜ called r (now (fields .exit)) ≡ left (readInto kind (now (s .entry)) (now (fields .entry))) ⌝ }
 {
-    match kind_named(kind) {
-        KindAnswer::Told(k) => put_reading(time_string::read(k, s), fields),
-        KindAnswer::Refused(e) => clock_time::error_number(e),
+    if kind == 2 {
+        return put_located(meinberg_gps::read_gps(s), fields);
     }
+    put_plain(read_plain(kind, s), fields)
 }
 
 fn write_standard(fields: &[i32], out: &mut [u8]) -> WriteAnswer

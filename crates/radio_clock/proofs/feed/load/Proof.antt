@@ -21,8 +21,8 @@ unfolding framerIn
 returns c =
     let w = c .before .before .before .before in
     let s = now (w .before .before .before .before .args .state) in
-    let whole = written-whole (w .write-bytes .result) _ _ _ (length-take-le 66 s (omega arith)) (w .write-bytes .ensures) in
-    rw (whole, c .mode-of .ensures)
+    let long = length-take-le 66 s (omega arith) in
+    rw (written-whole (w .write-bytes .result) _ _ _ long (w .write-bytes .ensures), c .mode-of .ensures)
 
 pub load-spec : {M : Type 1} → statement M
 load-spec =

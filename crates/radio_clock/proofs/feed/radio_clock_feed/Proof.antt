@@ -35,8 +35,8 @@ returns-2 c =
     let f = t .before .before .before in
     let l = f .before in
     let x = l .before .before .before .before .before .args in
-    feed-done (now (x .state)) (now (x .taken)) (now (x .event)) (now (x .s)) (x .limit) (f .feed .result) _ _ (omega arith)
-    (rw (l .load .ensures) at (f .feed .ensures)) (t .store .ensures) (c .event-number .ensures)
+    feed-done (now (x .state)) (now (x .taken)) (now (x .event)) (now (x .s)) (x .limit) (f .feed .result) _ _
+    (omega arith) (rw (l .load .ensures) at (f .feed .ensures)) (t .store .ensures) (c .event-number .ensures)
 
 pub radio-clock-feed-spec : {M : Type 1} → statement M
 radio-clock-feed-spec =

@@ -26,7 +26,8 @@ returns c =
 
 returns-2 : tie.Need-returns-2
 returns-2 c =
-    sym (short-not-within _ (rw (kept w32 (c .before .before .number-at .ok)) at (sym (c .before .is-within .ensures) ∙ c .if1 .left)))
+    let test = sym (c .before .is-within .ensures) ∙ c .if1 .left in
+    sym (short-not-within _ (rw (kept w32 (c .before .before .number-at .ok)) at test))
     ∙ ap short (c .before .before .number-at .ensures)
 
 pub i16-at-spec : {M : Type 1} → statement M

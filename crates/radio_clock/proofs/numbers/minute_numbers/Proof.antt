@@ -13,8 +13,11 @@ unfolding minuteNumbers
 returns c =
     let b = c .before in
     c .numbers-with .ensures
-    ∙ simp
-    (held w32 (b .before .number .ok) (b .before .number .ensures), held w32 (b .flag-number .ok) (b .flag-number .ensures), append-assoc)
+    ∙ simp (
+      held w32 (b .before .number .ok) (b .before .number .ensures),
+      held w32 (b .flag-number .ok) (b .flag-number .ensures),
+      append-assoc,
+    )
 
 pub minute-numbers-spec : {M : Type 1} → statement M
 minute-numbers-spec =

@@ -28,26 +28,36 @@ abbrev μ-loop : tie.MeasureT-loop
 returns : tie.Need-returns Inv-loop μ-loop
 returns c = sym (sameNumbers-false _ _ (λ e. c .if1 .taken (ap length e)))
 
--- what the test says of the two numbers
-tested : (c : tie.After-same Inv-loop μ-loop) → c .same .result
-    ≡ eqℤ (getD (now (c .before .before .before .before .before .before .args .a)) (c .before .before .before .before .loop .i) (pos 0))
-    (getD (now (c .before .before .before .before .before .before .args .b)) (c .before .before .before .before .loop .i) (pos 0))
-tested c = rw (kept w32 (c .before .before .same-arg .given), kept w32 (c .before .same-arg2 .given)) at (c .same .ensures)
+-- the number that the loop has reached, in the first and in the second list
+module _ (c : tie.After-same Inv-loop μ-loop) where
+  abbrev here : List ℤ → ℤ
+  here z = getD z (c .before .before .before .before .loop .i) (pos 0)
+
+  abbrev first : List ℤ
+  first = now (c .before .before .before .before .before .before .args .a)
+
+  abbrev second : List ℤ
+  second = now (c .before .before .before .before .before .before .args .b)
+
+  tested : c .same .result ≡ eqℤ (here first) (here second)
+  tested =
+      rw (kept w32 (c .before .before .same-arg .given), kept w32 (c .before .same-arg2 .given))
+      at (c .same .ensures)
 
 loop-holds : tie.Need-loop-holds Inv-loop μ-loop
 loop-holds c = (omega arith, c .if1 .left, λ k h. absurd (omega arith))
 
 returns-2 : tie.Need-returns-2 Inv-loop μ-loop
 returns-2 c =
-    let i = c .before .before .before .before .before .loop .i in
-    sym (sameNumbers-false _ _
-    (λ e. eqℤ-differ _ _ (sym (tested (c .before)) ∙ not-true _ (c .if2 .taken)) (ap (λ (l : List ℤ). getD l i (pos 0)) e)))
+    let differ = eqℤ-differ _ _ (sym (tested (c .before)) ∙ not-true _ (c .if2 .taken)) in
+    sym (sameNumbers-false _ _ (λ e. differ (ap (here (c .before)) e)))
 
 loop-again : tie.Need-loop-again Inv-loop μ-loop
 loop-again c =
     let l = c .before .before .before .before .before .loop in
     let x = c .before .before .before .before .before .before .before .args in
-    (omega arith, l .inv .1, at (now (x .a)) (now (x .b)) (l .i) (l .inv .2) (eqℤ-true _ _ (sym (tested (c .before)) ∙ not-false _ (c .if2 .left))))
+    let same = eqℤ-true _ _ (sym (tested (c .before)) ∙ not-false _ (c .if2 .left)) in
+    (omega arith, l .inv .1, at (now (x .a)) (now (x .b)) (l .i) (l .inv .2) same)
   where
     at : (a b : List ℤ) (i : ℕ) → ((k : ℕ) → k < i → getD a k (pos 0) ≡ getD b k (pos 0))
         → getD a i (pos 0) ≡ getD b i (pos 0) → (k : ℕ) → k < i + 1 → getD a k (pos 0) ≡ getD b k (pos 0)

@@ -1,11 +1,95 @@
-# make test: prove and run everything from nothing.
-# make list: prove and build the listing program, and list FILE.
+# make test                proves and runs everything from nothing
+# make list FILE=...       proves and builds the listing program, and lists FILE
+# make outside             the tests that are not Rattle's: the listing program and the C side
+# make c-test              the header, the comparison with plain C, its self test, the collector, what is installed
+# make fuzz N=... SEED=... the comparison with plain C on N random cases
+# make bench               prints docs/BENCHMARKS.md
+# make collector           target/c/collector
+# make install PREFIX=...  program, library, header and pkg-config file
 FILE ?= samples/capture.bin
+PREFIX ?= /usr/local
+VERSION ?= 0.1.0
+N ?= 2000000
+LIBRARY ?= target/staticlib/libradio_clock.a
+LIST_TIMES ?= target/bin/list_times
+C = target/c
+CRATES = crates.txt $(shell find crates -name '*.rt' -o -name '*.antt')
+WARN = -Wall -Wextra -Wpedantic -Wconversion -Wsign-conversion -Wshadow -Werror
+PLAIN = $(CC) -std=c99 -O2 $(WARN) -Iinclude -Itests/c
+CHECKED = $(CC) -std=c99 -O1 -g $(WARN) -fsanitize=address,undefined -fno-sanitize-recover=all -Iinclude -Itests/c
+COMPARE = $(addprefix tests/c/,compare.c examples.c inputs.c lend.c reference.c)
+HEADERS = include/radio_clock.h $(wildcard tests/c/*.h)
 
-.PHONY: test list
+.PHONY: test list outside c-test c-header fuzz c-selftest bench collector c-collector samples install c-install library
+
 test:
 	bash .ci/run
 
-list:
-	@rt check list_times >&2
+list: target/bin/list_times
 	@target/bin/list_times < "$(FILE)"
+
+outside: c-test $(LIST_TIMES)
+	python3 tests/list_times.py $(LIST_TIMES) samples/capture.bin
+
+# rt proves the crates below, then the library or the program.
+library: $(LIBRARY)
+target/staticlib/libradio_clock.a: $(CRATES)
+	rt staticlib radio_clock
+target/bin/list_times: $(CRATES)
+	@rt check list_times >&2
+
+c-test: c-header c-selftest fuzz c-collector c-install
+
+c-header: $(LIBRARY)
+	@mkdir -p $(C)
+	$(CC) -std=c99 $(WARN) -Iinclude tests/c/header.c $(LIBRARY) -o $(C)/header-c && $(C)/header-c
+	$(CXX) -x c++ -std=c++11 $(WARN) -Iinclude tests/c/header.c -x none $(LIBRARY) -o $(C)/header-c++ && $(C)/header-c++
+
+$(C)/compare: $(COMPARE) $(HEADERS) $(LIBRARY)
+	@mkdir -p $(C)
+	$(CHECKED) $(COMPARE) $(LIBRARY) -o $@
+
+fuzz: $(C)/compare
+	$(C)/compare -n $(N) $(if $(SEED),-s $(SEED))
+
+$(C)/selftest: $(COMPARE) tests/c/faulty.c $(HEADERS)
+	@mkdir -p $(C)
+	$(CHECKED) $(COMPARE) tests/c/faulty.c -o $@
+
+c-selftest: $(C)/selftest
+	tests/c/selftest.sh $(C)/selftest
+
+$(C)/bench: tests/c/bench.c tests/c/inputs.c tests/c/reference.c $(HEADERS) $(LIBRARY)
+	@mkdir -p $(C)
+	$(PLAIN) tests/c/bench.c tests/c/inputs.c tests/c/reference.c $(LIBRARY) -o $@
+
+bench: $(C)/bench $(LIST_TIMES)
+	@CC="$(CC)" tests/c/bench.sh $(C)/bench $(LIST_TIMES)
+
+$(C)/collector: examples/collector.c include/radio_clock.h $(LIBRARY)
+	@mkdir -p $(C)
+	$(PLAIN) examples/collector.c $(LIBRARY) -o $@
+
+collector: $(C)/collector
+
+$(C)/samples: tests/c/samples.c tests/c/reference.c tests/c/reference.h
+	@mkdir -p $(C)
+	$(PLAIN) tests/c/samples.c tests/c/reference.c -o $@
+
+# Makes the collector's samples anew.
+samples: $(C)/samples
+	$(C)/samples samples
+
+c-collector: $(C)/collector $(C)/samples
+	tests/c/collector.sh $(C)/collector $(C)/samples
+
+install: $(LIBRARY) $(LIST_TIMES)
+	install -d $(DESTDIR)$(PREFIX)/bin $(DESTDIR)$(PREFIX)/lib/pkgconfig $(DESTDIR)$(PREFIX)/include
+	install -m 755 $(LIST_TIMES) $(DESTDIR)$(PREFIX)/bin/list_times
+	install -m 644 $(LIBRARY) $(DESTDIR)$(PREFIX)/lib/libradio_clock.a
+	install -m 644 include/radio_clock.h $(DESTDIR)$(PREFIX)/include/radio_clock.h
+	sed 's|@PREFIX@|$(PREFIX)|; s|@VERSION@|$(VERSION)|' radio_clock.pc.in \
+	    > $(DESTDIR)$(PREFIX)/lib/pkgconfig/radio_clock.pc
+
+c-install: $(LIBRARY) $(LIST_TIMES)
+	tests/c/install.sh "$(MAKE) LIBRARY=$(LIBRARY) LIST_TIMES=$(LIST_TIMES)"

@@ -24,7 +24,8 @@ isValid t =
     && leb (t .weekday) 7
     && offsetInRange (t .«utc_offset»)
 
--- "86,400 × days since 1 January 1970 + 3,600 × hour + 60 × minute + second − 60 × offset" (01, The reading)
+-- "The instant is 86,400 × days since 1 January 1970 + 3,600 × hour + 60 × minute + second − 60 × offset. It may be below
+-- zero: 1 January 1970 00:00:00 at +60 is −3,600. Second 60 has the instant of the second after it." (01, The reading)
 unfoldable pub instantOf : ClockTime → ℤ
 instantOf t =
     pos (86400 * daysSinceEpoch (t .year) (t .month) (t .day) + (3600 * t .hour + 60 * t .minute + t .second))

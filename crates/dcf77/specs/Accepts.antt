@@ -11,7 +11,7 @@ use Rattle.dcf77.specs.Marks.{binary, longs}
 use Rattle.dcf77.specs.Minute.{announced}
 
 -- "A string or a DCF77 minute is accepted exactly when the rules in document 01 hold" (demand 2): none of these lines
--- of its table of refusals holds
+-- of its table of refusals holds, whose words stand at each (01, Refusal numbers)
 pub record AcceptsMinute (m : List ℕ) : Type 0 where
   -- 11: "run is not 59 or 60 marks"
   pub long : (length m ≡ 59) ⊎ (length m ≡ 60)

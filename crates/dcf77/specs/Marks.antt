@@ -12,7 +12,7 @@ long at m = eqb (getD m at 0) 1
 abbrev pub short : ℕ → List ℕ → Bool
 short at m = eqb (getD m at 0) 0
 
--- every mark is short or long
+-- every mark is short or long: "2 gap, 3 and any larger byte on a tape unsure" (01, DCF77 marks)
 unfoldable pub allSure : List ℕ → Bool
 allSure [] = true
 allSure (b ∷ m) = ltb b 2 && allSure m

@@ -69,11 +69,11 @@ elvFields s =
       «alternate_antenna» = false;
     }
 
--- the number of the flags that are set
+-- FF: the values of the flags that are set, added up
 unfoldable pub flagSum : Bool → Bool → Bool → ℕ
 flagSum summer change unsynchronised = cond summer 1 0 + cond change 2 0 + cond unsynchronised 4 0
 
--- the layout with the fields of a clock time and the number of its flags in it
+-- the layout with the fields of a clock time and FF in it
 abbrev pub lineOf : ClockTime → ℕ → List ℕ
 lineOf t flags =
     digits 2 (t .year) ++ ascii "-" ++ digits 2 (t .month) ++ ascii "-" ++ digits 2 (t .day)

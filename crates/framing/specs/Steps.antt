@@ -27,7 +27,7 @@ pub record BySteps (f : Framer) (s : List ℕ) (limit : ℕ) (r : Feeding) : Typ
   pub none : r .taken ≡ 0 → r .answer ≡ nothingYet
   pub whole : r .answer ≡ nothingYet → r .taken ≡ min limit (length s)
 
--- two feeds that nothing but bytes past the kept ones tells apart
+-- two feeds that differ at most in bytes after the kept ones
 pub record Alike (q r : Feeding) : Type 0 where
   pub answer : q .answer ≡ r .answer
   pub taken : q .taken ≡ r .taken

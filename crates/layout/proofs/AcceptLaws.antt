@@ -1,15 +1,14 @@
 -- A string is read exactly if the rules hold, for any format. Assumes nothing.
-use Prim.Native.Nat.{ℕ, _≤_}
-use mathlib.Core.Path.{_≡_, refl, sym, _∙_}
-use mathlib.Core.Bool.{Bool, true, false, not, _&&_, _||_, true≢false}
+use Prim.Native.Nat.{ℕ}
+use mathlib.Core.Path.{_≡_, refl}
+use mathlib.Core.Bool.{Bool, true, false, _||_, true≢false}
 use mathlib.Core.List.{List}
-use lib.Dec.{leb, eqb, lit<}
-use lib.ListN.{length}
+use lib.Dec.{lit<}
 use borrow.Author.Tests.{not-false, eqb-true, eq-eqb, leb-true, le-leb}
 use Rattle.clock_time.specs.Errors.{accepted}
 use Rattle.clock_time.proofs.ErrorLaws.{accepted-passes, passes-accepted}
 use Rattle.clock_time.proofs.Tests.{both}
-use Rattle.layout.specs.Layout.{FitsLayout, found}
+use Rattle.layout.specs.Layout.{found}
 use Rattle.layout.specs.Text.{Format, clockChecks, textChecks, readText}
 use Rattle.layout.specs.Accepts.{Accepts}
 use Rattle.layout.proofs.LayoutLaws.{none-found, fits-found}

@@ -1,6 +1,7 @@
 -- Laws of the definitions, and the main results.
 pub mod LayoutLaws
 pub mod PartLaws
+pub mod ByteLaws
 pub mod WordLaws
 pub mod PairLaws
 pub mod TextLaws

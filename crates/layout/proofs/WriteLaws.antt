@@ -1,10 +1,10 @@
 -- Laws for writing by a layout: a string that fits is its layout's fixed bytes and its own bytes at the open places,
 -- and digits and letters are written as they were read. Assumes nothing.
-use Prim.Native.Nat.{ℕ, zero, suc, _+_, _-_, _/_, _%_, _≤_, _<_}
+use Prim.Native.Nat.{ℕ, suc, _+_, _-_, _/_, _%_, _≤_, _<_}
 use Prim.Native.Char.{Char, code}
 use native.Mathlib.Nat.{zero-add, add-zero}
 use native.Mathlib.Omega.{arith}
-use mathlib.Core.Path.{_≡_, refl, sym, ap, ap₂, _∙_, subst}
+use mathlib.Core.Path.{_≡_, refl, sym, ap, _∙_, subst}
 use mathlib.Core.Bool.{Bool, true, false, cond, _||_, false≢true}
 use mathlib.Core.List.{List, [], _∷_}
 use lib.Dec.{eqb, ltb}
@@ -14,7 +14,7 @@ use borrow.Author.Tests.{eq-eqb, eqb-true}
 use Rattle.decimal.specs.Decimal.{digits}
 use Rattle.decimal.proofs.DecimalLaws.{digits-value}
 use Rattle.calendar.specs.Date.{fullYear}
-use Rattle.layout.specs.Layout.{flag, either, allowed, FitsLayout, run, number, has}
+use Rattle.layout.specs.Layout.{allowed, FitsLayout, run, number}
 use Rattle.layout.specs.Text.{letter}
 use Rattle.layout.proofs.LayoutLaws.{allDigits, run-digits, length-run, number-below}
 

@@ -2,14 +2,15 @@
 use Prim.Native.Nat.{ℕ, zero, suc, _+_, _*_, _/_, _%_, _<_}
 use Prim.Native.Char.{Char, code}
 use mathlib.Core.Path.{_≡_}
-use mathlib.Core.Bool.{Bool, true, false, cond, not, _&&_, _||_}
+use mathlib.Core.Bool.{Bool, true, cond, _&&_, _||_}
 use mathlib.Core.List.{List, [], _∷_}
 use lib.Dec.{ltb, eqb}
 use lib.ListN.{length, getD}
 use Rattle.decimal.specs.Decimal.{isDigit, value}
 
 -- A place is a number: below 256 that byte and no other; `digit`, a decimal digit; `free`, any byte, since other rules
--- speak of it; `flag a`, the letter a or a blank; `either a b`, the letter a, the letter b or a blank.
+-- speak of it; `flag a`, the letter a or a blank; `either a b`, the letter a, the letter b or a blank. No layout has
+-- another number; from 258 on one would be taken as a flag.
 abbrev pub digit : ℕ
 digit = 256
 
@@ -35,8 +36,8 @@ allowed p b =
     (cond (eqb p free) true
     (cond (ltb p 65536) (eqb b 32 || eqb b (p % 256)) (eqb b 32 || eqb b (p / 256 % 256) || eqb b (p % 256)))))
 
--- "2 a fixed byte differs", "3 no digit in a digit place", "4 a flag place holds another character" (01, Refusal
--- numbers)
+-- "2 a fixed byte differs", "3 no digit in a digit place", "4 a flag place holds another character"
+-- (01, Refusal numbers)
 unfoldable pub errorAt : ℕ → ℕ
 errorAt p = cond (ltb p 256) 2 (cond (eqb p digit) 3 4)
 
@@ -49,7 +50,7 @@ pub record FitsLayout (l s : List ℕ) : Type 0 where
   pub long : length l ≡ length s
   pub at : (i : ℕ) → i < length l → allowed (getD l i 0) (getD s i 0) ≡ true
 
--- the same as a test: what is left of a layout, from the place i on, has bytes of s that may stand there, and so far t
+-- as a test, lengths apart: t, and every byte of s from place i on may stand at its place in what is left of a layout
 unfoldable pub fitsFrom : Bool → ℕ → List ℕ → List ℕ → Bool
 fitsFrom t i [] s = t
 fitsFrom t i (p ∷ l) s = fitsFrom (t && allowed p (getD s i 0)) (suc i) l s

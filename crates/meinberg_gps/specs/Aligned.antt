@@ -21,10 +21,11 @@ unfoldable pub digitsOrBlanks : List ℕ → Bool
 digitsOrBlanks [] = true
 digitsOrBlanks (b ∷ s) = (isDigit b || eqb b 32) && digitsOrBlanks s
 
--- the last k decimal digits of n, with a blank at each place where the number up to it is 0
+-- a blank for 0, else the last digit of n
 unfoldable pub blankOr : ℕ → ℕ
 blankOr n = cond (eqb n 0) 32 (48 + n % 10)
 
+-- the last k decimal digits of n, with a blank at each place where the number up to it is 0
 unfoldable pub padded : ℕ → ℕ → List ℕ
 padded zero n = []
 padded (suc k) n = padded k (n / 10) ++ (blankOr n ∷ [])

@@ -26,7 +26,7 @@ use Rattle.meinberg_gps.specs.declared.GpsAnswer.the-variants.{Read, Ref
 
 -- "As PZF up to place 22; blank at 23; sign at 24; offset digits at 25, 26, 28, 29 with `:` at 27; `;` 30; blank 31;
 -- flags uvxyzab at 32..38; `;` 39; blank 40; latitude 41..48; blank 49; longitude 50..58; blank 59; height 60..63; `m`
--- 64; ETX 65." PZF begins "`STX dd.mm.yy; w; hh:mm:ss;`". (01, Meinberg and ELV strings)
+-- 64; ETX 65." PZF begins "`STX dd.mm.yy; w; hh:mm:ss; [..]". (01, Meinberg and ELV strings)
 unfoldable pub gpsLayout : List ℕ
 gpsLayout =
     ascii "\u{2}" ++ places 2 digit ++ ascii "." ++ places 2 digit ++ ascii "." ++ places 2 digit
@@ -44,7 +44,7 @@ abbrev pub offsetSize : List ℕ → ℕ
 offsetSize s = 60 * number 2 25 s + number 2 28 s
 
 -- "Offset at most 14:00 either way, its minutes at most 59; `-00:00` is refused with 8." (01, Meinberg and ELV strings)
--- So is a byte at 24 that is no sign.
+-- "8 offset sign or size" (01, Refusal numbers): so is a byte at 24 that is no sign.
 unfoldable pub offsetFault : List ℕ → Bool
 offsetFault s = not (leb (number 2 28 s) 59 && signHolds (code "+") (code "-") 840 (getD s 24 0) (offsetSize s))
 

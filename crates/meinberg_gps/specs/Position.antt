@@ -42,7 +42,7 @@ decimals a s = run (a .first + a .whole + 1) 4 s
 abbrev pub hemisphere : Angle → List ℕ → ℕ
 hemisphere a s = getD s (a .first + a .whole + 5) 0
 
--- a blank counts as 0
+-- a blank counts as 0, since 32 - 48 is 0
 abbrev pub angleSize : Angle → List ℕ → ℕ
 angleSize a s = value (wholePart a s ++ decimals a s)
 

@@ -14,6 +14,6 @@ unfoldable pub signHolds : ℕ → ℕ → ℕ → ℕ → ℕ → Bool
 signHolds above below limit byte size =
     (eqb byte above || eqb byte below) && leb size limit && not (eqb size 0 && eqb byte below)
 
--- the sign of a number, zero among those above
+-- the byte for a number's sign; zero takes the one for numbers above zero
 abbrev pub signByte : ℕ → ℕ → ℤ → ℕ
 signByte above below z = cond (nonNeg z) above below

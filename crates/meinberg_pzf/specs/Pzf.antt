@@ -27,7 +27,8 @@ unfoldable pub pzfOffset : Bool → Bool → ℤ
 pzfOffset utc summer = cond utc (pos 0) (cond summer (pos 120) (pos 60))
 
 -- "Flags at 24..30: t `U`, u `#`, v `*`, x `S`, y `!`, z `A`, a `R`, or blank. [..] x is the summer flag in each case."
--- (01, Meinberg and ELV strings); u, v, y, z and a have the meanings that they have in the other strings
+-- (01, Meinberg and ELV strings): in turn UTC, unsynchronised, unverified, summer time, change coming, leap second
+-- coming and alternate antenna
 unfoldable pub pzfFields : List ℕ → ClockTime
 pzfFields s =
     record {
@@ -55,7 +56,7 @@ lineOf t utc u v x y z a =
     ++ ascii "; " ++ digits 2 (t .hour) ++ ascii ":" ++ digits 2 (t .minute) ++ ascii ":" ++ digits 2 (t .second)
     ++ ascii "; " ++ (utc ∷ u ∷ v ∷ x ∷ y ∷ z ∷ a ∷ ascii "\u{3}")
 
--- the letters, were the clock time to be read from them: the offset decides t, and x is the summer flag
+-- the only letters that could be read as a clock time: the offset decides t, and x is the summer flag
 unfoldable pub pzfText : ClockTime → List ℕ
 pzfText t =
     lineOf t (letter (eqℤ (t .«utc_offset») (pos 0)) "U")

@@ -2,7 +2,7 @@
 use Prim.Native.Nat.{ℕ}
 use Prim.Native.Char.{code}
 use mathlib.Core.Bool.{Bool, false, cond}
-use mathlib.Core.List.{List, [], _∷_, _++_}
+use mathlib.Core.List.{List, _∷_, _++_}
 use lib.Dec.{eqb}
 use lib.ListN.{getD}
 use lib.IntN.{ℤ, pos}
@@ -50,7 +50,7 @@ standardFields s =
       «alternate_antenna» = false;
     }
 
--- the letter of a zone and the letter of what is announced, were the clock time to be read from them
+-- the only letter of a zone, and the only one of what is announced, that could be read as an offset and these flags
 unfoldable pub zoneLetter : ℤ → Bool → ℕ
 zoneLetter offset summer = cond summer (code "S") (cond (eqℤ offset (pos 0)) (code "U") 32)
 

@@ -40,8 +40,8 @@ fillAnswer (FillAnswer.Refused e) = refused (errorNumber e)
 abbrev pub filling : FillAnswer → List ℕ → Exit (Unit {0}) (List ℕ)
 filling r outcomes = exit (fillAnswer r) outcomes
 
--- the right sheet: "the two are equally long and every place holds the number that this rule gives there" (01, Tape and
--- sheet)
+-- the outcomes that are right: "the two are equally long and every place holds the number that this rule gives there"
+-- (01, Tape and sheet)
 unfoldable pub fillOutcomes : List ℕ → List ℕ → Exit (Unit {0}) (List ℕ)
 fillOutcomes marks outcomes =
     leaves outcomes (numbers (rule marks) (length marks))
@@ -64,7 +64,7 @@ correctAnswer (CorrectAnswer.Refused e) = refused (errorNumber e)
 abbrev pub correction : CorrectAnswer → List ℕ → List ℕ → Exit ℕ Recorded
 correction r marks outcomes = exit (correctAnswer r) (recorded marks outcomes)
 
--- "For a correction: 20, 21, 22." (01, Refusal numbers)
+-- "For a correction: 20, 21, 22."; "21 place at or past the tape's end"; "22 new mark above 3" (01, Refusal numbers)
 abbrev pub correctionChecks : List ℕ → List ℕ → ℕ → ℕ → List Check
 correctionChecks marks outcomes place mark =
     given 20 (unfit (length marks) (length outcomes))

@@ -45,7 +45,7 @@ abbrev pub located : Answer GpsTime → Answer Reading
 located (accepted g) = accepted (timeAndPosition g)
 located (refused k) = refused k
 
--- "The caller names the kind" (01, Meinberg and ELV strings)
+-- "The caller names the kind [..]" (01, Meinberg and ELV strings)
 unfoldable pub readAs : Kind → List ℕ → Answer Reading
 readAs Standard s = plain (readStandard s)
 readAs Pzf s = plain (readPzf s)

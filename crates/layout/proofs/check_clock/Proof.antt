@@ -1,8 +1,5 @@
 -- `layout::check_clock` meets its contract. Assumes nothing.
 use borrow.Author.Needs.{needs}
-use Rattle.clock_time.proofs.Tests.{tests}
-use mathlib.Core.Path.{_≡_, sym, ap, _∙_}
-use mathlib.Core.Bool.{Bool, true, false, not, _||_}
 use mir.Syntax.{w16}
 use mir.Val.{SFits}
 use mir.Facts.{toZ-ofZ}

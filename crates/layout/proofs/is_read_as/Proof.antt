@@ -1,6 +1,5 @@
 -- `layout::is_read_as` meets its contract. Assumes nothing.
 use borrow.Author.Needs.{needs}
-use mathlib.Core.Path.{_≡_, refl}
 use Rattle.layout.proofs.is_read_as.Statement.{statement}
 use Rattle.layout.proofs.is_read_as.Tie as tie
 

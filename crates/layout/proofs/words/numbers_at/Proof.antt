@@ -26,7 +26,7 @@ add-pairs c = omega (arith, pairs c .small)
 
 returns : tie.Need-returns
 unfolding numbersAt threeNumbers
-returns c = let p = pairs c in rw (p .first, p .second, p .third)
+returns c = let p = pairs c in λ i. record { first = p .first i; second = p .second i; third = p .third i }
 
 pub numbers-at-spec : {M : Type 1} → statement M
 numbers-at-spec =

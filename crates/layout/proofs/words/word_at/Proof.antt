@@ -1,7 +1,6 @@
 -- `layout::words::word_at` meets its contract. Assumes nothing.
 use borrow.Author.Needs.{needs}
 use native.Mathlib.Omega.{arith}
-use mathlib.Core.Path.{refl, _∙_}
 use denote.Ref.{now}
 use Prim.Native.Nat.{_+_, _≤_, _<_}
 use lib.ListN.{length}

@@ -1,5 +1,5 @@
--- One byte of a string and the byte of a sample that it is held to: their bits agree, before and after six is added to a
--- digit, exactly if the byte may stand there. Assumes nothing.
+-- One byte of a string and the byte of a sample that it is held to: their bits agree, before and after six is added to
+-- a digit, exactly if the byte may stand there. Assumes nothing.
 use Prim.Native.Nat.{ℕ, _+_, _*_, _/_, _%_, _≤_, _<_}
 use native.Mathlib.Nat.{mod-eq-of-lt}
 use native.Mathlib.Omega.{arith}

@@ -1,5 +1,4 @@
--- Eight bytes at once: the sample of a text that they are held to, and the numbers of three pairs of digits. Assumes
--- nothing.
+-- Eight bytes at once: a sample that they are held to, and the numbers of three pairs of digits. Assumes nothing.
 use Prim.Native.Nat.{ℕ, suc, _+_, _*_, _%_}
 use mathlib.Core.Bool.{Bool, true, cond}
 use mathlib.Core.List.{List, [], _∷_}

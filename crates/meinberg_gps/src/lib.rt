@@ -96,8 +96,8 @@ fn read_fitting(s: &[u8]) -> GpsAnswer
     }
 }
 
-// Reads a Meinberg GPS string: the clock time and the position, or the first of 1, 2, 3, 4, 8, 9, 5, 6 and 7 that
-// holds.
+// Reads a Meinberg GPS string: the clock time and the position, or the first of 1, 2, 3, 4, 8, 9, 5, 6 and 7
+// that holds.
 pub fn read_gps(s: &[u8]) -> GpsAnswer
     ensures { λ r. ⌜ gpsAnswer r ≡ readGps (now (s .entry)) ⌝ }
 {

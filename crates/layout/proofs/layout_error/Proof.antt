@@ -12,7 +12,8 @@ returns c = simp (ne-eqb _ _ (c .if1 .taken))
 returns-2 : tie.Need-returns-2
 unfolding layoutError
 returns-2 c =
-    simp (eq-eqb _ _ (c .before .before .if1 .left), rw (c .before .first-offence .ensures) at (lt-ltb _ _ (c .if2 .taken)))
+    let found = rw (c .before .first-offence .ensures) at (lt-ltb _ _ (c .if2 .taken)) in
+    simp (eq-eqb _ _ (c .before .before .if1 .left), found)
 
 returns-3 : tie.Need-returns-3
 unfolding layoutError

@@ -34,7 +34,8 @@ returns c =
     f .eight-fit2 .ensures ∙ sample-fits 8 _ s (omega arith) in
     let part1 : g .eight-fit .result ≡ fitsFrom true 0 (run 0 8 gpsLayout) s =
     g .eight-fit .ensures ∙ sample-fits 0 _ s (omega arith) in
-    rw (c .rest-fits .ensures, c .before .flags-fit .ensures, part4, part3, part2, part1) (parts-fit (8 ∷ 8 ∷ 8 ∷ 8 ∷ 7 ∷ 27 ∷ []) true 0 gpsLayout s)
+    rw (c .rest-fits .ensures, c .before .flags-fit .ensures, part4, part3, part2, part1)
+    (parts-fit (8 ∷ 8 ∷ 8 ∷ 8 ∷ 7 ∷ 27 ∷ []) true 0 gpsLayout s)
 
 pub fits-spec : {M : Type 1} → statement M
 fits-spec =

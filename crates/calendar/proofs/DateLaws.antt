@@ -9,10 +9,11 @@ use mathlib.Core.List.{List, [], _∷_}
 use lib.Dec.{T, leb, ltb, eqb, eqb→eq, leb→le, lit≤}
 use lib.ListN.{length, getD, take, List·getD-eq-default}
 use mir.Val.{boolByte}
-use borrow.Author.Tests.{leb-true, ne-eqb}
+use borrow.Author.Tests.{leb-true, le-leb, ne-eqb}
+use Rattle.clock_time.specs.Errors.{accepted}
 use Rattle.clock_time.proofs.Tests.{both, below, below-at}
 use Rattle.calendar.specs.Date.{isLeapYear, monthLengths, daysInMonth, dateExists, firstYear, fullYear}
-use Rattle.calendar.specs.Date.{knownDate, sum, daysOfYears, daysBeforeMonth, daysSinceEpoch}
+use Rattle.calendar.specs.Date.{knownDate, sum, daysOfYears, daysBeforeMonth, daysSinceEpoch, dayNumber}
 
 -- the tables of the code
 abbrev pub lengthTable : List ℕ
@@ -113,6 +114,16 @@ known year month day h =
       | yes l ↦ let z : n ≡ 0 = none l in absurd (omega arith)
       | no l ↦ omega arith
     ]
+
+-- two digits of year give a year that is known
+pub known-exists : (n month day : ℕ) → knownDate (fullYear n) month day ≡ dateExists (fullYear n) month day
+unfolding knownDate fullYear
+known-exists n month day = simp (le-leb 1970 (fullYear n) (omega arith), le-leb (fullYear n) 2069 (omega arith))
+
+pub day-known : (year month day : ℕ) → knownDate year month day ≡ true
+    → dayNumber year month day ≡ accepted (daysSinceEpoch year month day)
+unfolding dayNumber
+day-known year month day h = simp h
 
 -- the sum of the code
 pub days-sum : (year month day before : ℕ) → knownDate year month day ≡ true → before ≡ daysBeforeMonth year month

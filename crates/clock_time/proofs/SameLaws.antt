@@ -21,11 +21,11 @@ use Rattle.clock_time.proofs.Tests.{both}
 eqb-refl : (n : ℕ) → eqb n n ≡ true
 eqb-refl n = eq-eqb n n refl
 
-beq-refl : (a : Bool) → Bool·beq a a ≡ true
+pub beq-refl : (a : Bool) → Bool·beq a a ≡ true
 beq-refl true = refl
 beq-refl false = refl
 
-beq-true : (a b : Bool) → Bool·beq a b ≡ true → a ≡ b
+pub beq-true : (a b : Bool) → Bool·beq a b ≡ true → a ≡ b
 beq-true true true h = refl
 beq-true true false h = absurd (false≢true h)
 beq-true false true h = absurd (false≢true h)

@@ -9,10 +9,10 @@ use mathlib.Core.List.{List, [], _∷_, _++_}
 use lib.Dec.{eqb}
 use lib.ListN.{length, getD}
 use borrow.Author.Tests.{eq-eqb, ne-eqb}
-use Rattle.dcf77.specs.Marks.{long, twoDigits, bits}
+use Rattle.dcf77.specs.Marks.{long, binary, twoDigits, longs, bits}
 use Rattle.dcf77.specs.Minute.{announced, minuteFields, mark, withParity, firstMarks, minuteText}
 use Rattle.dcf77.specs.Accepts.{AcceptsMinute}
-use Rattle.dcf77.proofs.BitLaws.{marksFrom, marks-all, bits-binary, parity-mark}
+use Rattle.dcf77.proofs.BitLaws.{marksFrom, marks-all, marks-join, bits-binary, parity-mark, parity-last}
 use Rattle.dcf77.proofs.BitLaws.{ones-digit, tens-digit, year-digits}
 
 -- ---- single marks
@@ -30,27 +30,18 @@ other-mark a b h l differ = elim (ℕ-discrete a 1) [
 
 module _ (m : List ℕ) (r : AcceptsMinute m) where
   -- ---- the three groups
-  minute-group : withParity (bits 4 (announced m .minute % 10) ++ bits 3 (announced m .minute / 10)) ≡ marksFrom 8 21 m
-  unfolding announced marksFrom
-  minute-group =
+  number-group : (at tens : ℕ) → binary 4 at m ≤ 9 → longs (4 + tens + 1) at m % 2 ≡ 0
+      → withParity (bits 4 (twoDigits at tens m % 10) ++ bits tens (twoDigits at tens m / 10))
+      ≡ marksFrom (4 + tens + 1) at m
+  number-group at tens digit even =
       rw (
-        ones-digit m 21 3 (r .minuteDigit),
-        tens-digit m 21 3 (r .minuteDigit),
-        bits-binary m (r .sure) 4 21,
-        bits-binary m (r .sure) 3 25,
-        parity-mark m (r .sure) 7 21 (r .minuteParity),
+        ones-digit m at tens digit,
+        tens-digit m at tens digit,
+        bits-binary m (r .sure) 4 at,
+        bits-binary m (r .sure) tens (4 + at),
+        marks-join m 4 tens at,
       )
-
-  hour-group : withParity (bits 4 (announced m .hour % 10) ++ bits 2 (announced m .hour / 10)) ≡ marksFrom 7 29 m
-  unfolding announced marksFrom
-  hour-group =
-      rw (
-        ones-digit m 29 2 (r .hourDigit),
-        tens-digit m 29 2 (r .hourDigit),
-        bits-binary m (r .sure) 4 29,
-        bits-binary m (r .sure) 2 33,
-        parity-mark m (r .sure) 6 29 (r .hourParity),
-      )
+      (parity-last m (r .sure) (4 + tens) at even)
 
   year-small : twoDigits 50 4 m < 100
   unfolding twoDigits
@@ -84,8 +75,8 @@ module _ (m : List ℕ) (r : AcceptsMinute m) where
   unfolding firstMarks minuteFields announced marksFrom
   first-marks =
       rw (
-        minute-group,
-        hour-group,
+        number-group 21 3 (r .minuteDigit) (r .minuteParity),
+        number-group 29 2 (r .hourDigit) (r .hourParity),
         date-group,
         bits-binary m (r .sure) 14 1,
         flag-mark (getD m 15 0) (r .sure 15),

@@ -1,12 +1,14 @@
 -- Marks and the bits of their numbers, over any number of marks. Assumes nothing.
 use Prim.Native.Nat.{ℕ, zero, suc, _+_, _/_, _%_, _≤_, _<_}
-use native.Mathlib.Nat.{add-zero, add-suc, suc-add}
+use native.Mathlib.Nat.{zero-add, add-zero, add-suc, suc-add, add-comm}
+use native.Mathlib.Numerals.{add-one}
 use native.Mathlib.Omega.{arith}
 use mathlib.Core.Path.{_≡_, refl, ap, _∙_}
-use mathlib.Core.List.{List, [], _∷_}
+use mathlib.Core.List.{List, [], _∷_, _++_}
 use lib.ListN.{length, getD}
 use Rattle.calendar.specs.Date.{sum, fullYear}
 use Rattle.dcf77.specs.Marks.{binary, twoDigits, longs, bits}
+use Rattle.dcf77.specs.Minute.{withParity}
 use Rattle.dcf77.proofs.MarkLaws.{low-part, high-part}
 
 -- k marks from a place on
@@ -23,6 +25,11 @@ pub marks-all : (m : List ℕ) → marksFrom (length m) 0 m ≡ m
 unfolding marksFrom
 marks-all [] = refl
 marks-all (b ∷ m) = ap (λ (l : List ℕ). b ∷ l) (later (length m) 0 b m ∙ marks-all m)
+
+pub marks-join : (m : List ℕ) (j k at : ℕ) → marksFrom j at m ++ marksFrom k (j + at) m ≡ marksFrom (j + k) at m
+unfolding marksFrom
+marks-join m zero k at = rw (zero-add at, zero-add k)
+marks-join m (suc j) k at = rw (suc-add j at, ← (add-suc j at), suc-add j k, marks-join m j k (suc at))
 
 longs-last : (m : List ℕ) (k at : ℕ) → longs (suc k) at m ≡ sum (marksFrom k at m) + getD m (at + k) 0
 unfolding longs marksFrom
@@ -44,6 +51,12 @@ module _ (m : List ℕ) (small : (k : ℕ) → getD m k 0 ≤ 1) where
   parity-mark k at even =
       let h : (sum (marksFrom k at m) + getD m (at + k) 0) % 2 ≡ 0 = rw (longs-last m k at) at even in
       omega (arith, small (at + k))
+
+  -- the marks before the last, and their parity
+  pub parity-last : (k at : ℕ) → longs (k + 1) at m % 2 ≡ 0 → withParity (marksFrom k at m) ≡ marksFrom (k + 1) at m
+  unfolding marksFrom
+  parity-last k at even =
+      rw (parity-mark k at (rw (add-one k) at even), add-comm at k) (marks-join m k 1 at)
 
 -- ---- a number of two digits
 module _ (m : List ℕ) (at tens : ℕ) (digit : binary 4 at m ≤ 9) where

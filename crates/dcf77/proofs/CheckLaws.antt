@@ -30,7 +30,7 @@ long-enough n h = ⊎-elim (λ e. omega arith) (λ e. omega arith) (two-lengths 
 pub length-known : (n : ℕ) → (n ≡ 59) ⊎ (n ≡ 60) → (eqb n 59 || eqb n 60) ≡ true
 length-known n h = ⊎-elim (λ e. rw e) (λ e. rw e) h
 
-abbrev timeChecks : List ℕ → ClockTime → List Check
+abbrev pub timeChecks : List ℕ → ClockTime → List Check
 timeChecks m t =
     given 7 (not (leb 1 (t .weekday) && leb (t .weekday) 7))
     ∷ given 5 (not (dateExists (t .year) (t .month) (t .day)))

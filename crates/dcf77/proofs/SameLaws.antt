@@ -1,23 +1,13 @@
 -- The test that two minutes are the same is right. Assumes nothing.
 use mathlib.Core.Path.{_≡_, refl}
-use mathlib.Core.Bool.{Bool, true, false, _&&_, Bool·beq, false≢true}
+use mathlib.Core.Bool.{true, _&&_, Bool·beq}
 use lib.Dec.{eqb}
 use borrow.Author.Tests.{eq-eqb, eqb-true}
 use Rattle.clock_time.specs.Same.{sameTime}
-use Rattle.clock_time.proofs.SameLaws.{sameTime-refl, sameTime-true}
+use Rattle.clock_time.proofs.SameLaws.{beq-refl, beq-true, sameTime-refl, sameTime-true}
 use Rattle.clock_time.proofs.Tests.{both}
 use Rattle.dcf77.specs.Minute.{sameMinute}
 use Rattle.dcf77.specs.declared.MinuteTime.{MinuteTime}
-
-beq-refl : (a : Bool) → Bool·beq a a ≡ true
-beq-refl true = refl
-beq-refl false = refl
-
-beq-true : (a b : Bool) → Bool·beq a b ≡ true → a ≡ b
-beq-true true true h = refl
-beq-true true false h = absurd (false≢true h)
-beq-true false true h = absurd (false≢true h)
-beq-true false false h = refl
 
 pub sameMinute-refl : (a : MinuteTime) → sameMinute a a ≡ true
 unfolding sameMinute

@@ -11,7 +11,6 @@ use lib.Seq.{take-suc-set}
 use lib.Count.{ones, ones-step}
 use lib.Arith.{digits-lt}
 use lib.Pow.{pow-pos, pow-add, field, mod-mod-pow}
-use mir.Val.{boolByte}
 use Rattle.calendar.specs.Date.{sum}
 use Rattle.dcf77.specs.Marks.{bits}
 use Rattle.dcf77.specs.Numbers.{Spells}
@@ -54,7 +53,7 @@ spells-small k n h = record { below = h; marks = refl }
 pub spells-last : (k n : ℕ) → Spells k (bits k n) (n % 2 ^ k)
 spells-last k n = record { below = mod-lt n (pow-pos k); marks = bits-mod k n }
 
-pub spells-mark : (b : Bool) → Spells 1 (mark b ∷ []) (boolByte b)
+pub spells-mark : (b : Bool) → Spells 1 (mark b ∷ []) (mark b)
 unfolding bits
 spells-mark true = record { below = omega arith; marks = refl }
 spells-mark false = record { below = omega arith; marks = refl }
@@ -78,6 +77,14 @@ spells-even {k} {n} {x} s =
     let last : ones n % 2 % 2 ≡ sum x % 2 = rw (h, mod-mod) in
     let w = spells-join s (spells-small 1 (ones n % 2) (mod-lt (ones n) (pow-pos 1))) in
     record { below = w .below; marks = w .marks ∙ ap (λ (p : ℕ). x ++ (p ∷ [])) last }
+
+-- two digits, the second with k marks, and the parity
+pub spells-number : (k n : ℕ)
+    → let x = n % 10 + 16 * (n / 10 % 2 ^ k) in
+    Spells (4 + k + 1) (withParity (bits 4 (n % 10) ++ bits k (n / 10))) (x + 2 ^ (4 + k) * (ones x % 2))
+spells-number k n =
+    let ones : n % 10 < 2 ^ 4 = omega arith in
+    spells-even (spells-join (spells-small 4 (n % 10) ones) (spells-last k (n / 10)))
 
 pub spells-pad : {k n : ℕ} {x : List ℕ} → Spells k x n → bits (k + 1) n ≡ x ++ (0 ∷ [])
 unfolding bits

@@ -6,6 +6,7 @@ ghost use lib.Dec.{eqb};
 ghost use lib.ListN.{length};
 ghost use lib.Count.{ones};
 ghost use Rattle.dcf77.specs.Marks.{allSure, binary};
+ghost use Rattle.dcf77.specs.Minute.{mark};
 ghost use Rattle.dcf77.specs.Numbers.{Sure};
 
 // True where every mark is short or long: no bit but the lowest is set in any.
@@ -54,6 +55,13 @@ pub(crate) fn read_date(m: &[u8]) -> u32
     let low = read_eight(m, 36);
     let middle = read_eight(m, 44);
     low + 256 * (middle + 256 * (read_eight(m, 51) / 2))
+}
+
+// 1 for a long mark, 0 for a short one.
+pub(crate) fn bit(long: bool) -> u32
+    ensures { λ r. ⌜ (r ≤ 1) × (r ≡ mark long) ⌝ }
+{
+    long as u32
 }
 
 // 1 where an odd number of bits is set, else 0.

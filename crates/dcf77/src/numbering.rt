@@ -1,5 +1,6 @@
 // The number of an accepted minute.
 use crate::MinuteTime;
+use crate::marks;
 use calendar::date::DateAnswer;
 ghost use mathlib.Core.Path.{_≡_};
 ghost use mathlib.Core.Bool.{true};
@@ -40,11 +41,11 @@ fn flags_number(sixty: bool, summer: bool, antenna: bool, change: bool, leap: bo
     ensures { λ r. ⌜ (r ≤ 31)
         × (r ≡ 16 * mark sixty + 8 * mark summer + 4 * mark antenna + 2 * mark change + mark leap) ⌝ }
 {
-    16 * (sixty as u32)
-        + 8 * (summer as u32)
-        + 4 * (antenna as u32)
-        + 2 * (change as u32)
-        + leap as u32
+    16 * marks::bit(sixty)
+        + 8 * marks::bit(summer)
+        + 4 * marks::bit(antenna)
+        + 2 * marks::bit(change)
+        + marks::bit(leap)
 }
 
 // The number of a minute that was read.

@@ -18,8 +18,9 @@ ghost use Rattle.dcf77.specs.Minute.{sameMinute, writeMinute};
 fn spell_flags(antenna: bool, change: bool, summer: bool, leap: bool) -> u64
     ensures { λ r. ⌜ Spells 6 (mark antenna ∷ mark change ∷ mark summer ∷ mark (not summer) ∷ mark leap ∷ 1 ∷ []) r ⌝ }
 {
-    antenna as u64
-        + 2 * (change as u64 + 2 * (summer as u64 + 2 * (!summer as u64 + 2 * (leap as u64 + 2))))
+    let zone = marks::bit(summer) + 2 * marks::bit(!summer);
+    let low = marks::bit(antenna) + 2 * marks::bit(change) + 4 * zone;
+    (low + 16 * (marks::bit(leap) + 2)) as u64
 }
 
 // Marks 21 to 28, the parity last.

@@ -1,16 +1,11 @@
 -- `dcf77::writing::spell_minute` meets its contract. Assumes nothing.
 use borrow.Author.Needs.{needs}
-use Prim.Native.Nat.{_%_, _/_, _<_, _^_}
-use native.Mathlib.Omega.{arith}
-use Rattle.dcf77.proofs.SpellLaws.{spells-small, spells-last, spells-join, spells-even}
+use Rattle.dcf77.proofs.SpellLaws.{spells-number}
 use Rattle.dcf77.proofs.writing.spell_minute.Statement.{statement}
 use Rattle.dcf77.proofs.writing.spell_minute.Tie as tie
 
 returns : tie.Need-returns
-returns c =
-    let n = c .before .args .minute in
-    let ones : n % 10 < 2 ^ 4 = omega arith in
-    rw (c .parity .ensures) (spells-even (spells-join (spells-small 4 (n % 10) ones) (spells-last 3 (n / 10))))
+returns c = rw (c .parity .ensures) (spells-number 3 (c .before .args .minute))
 
 pub spell-minute-spec : {M : Type 1} → statement M
 spell-minute-spec =

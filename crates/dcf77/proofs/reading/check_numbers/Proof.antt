@@ -11,7 +11,7 @@ use Rattle.dcf77.proofs.NumberLaws.{minute-odd, hour-odd, date-odd, dig
 use Rattle.dcf77.proofs.reading.check_numbers.Statement.{statement}
 use Rattle.dcf77.proofs.reading.check_numbers.Tie as tie
 
--- the checks up to this one are passed
+-- the checks 4 to n - 1, counted from 0, are passed
 abbrev Passed : ℕ → tie.Start → Type 0
 Passed n s = checkedFrom 4 (now (s .args .m)) ≡ checkedFrom n (now (s .args .m))
 

@@ -3,7 +3,7 @@
 use Prim.Native.Nat.{ℕ}
 use borrow.Author.Needs.{needs}
 use mathlib.Core.Path.{_≡_, sym, ap, _∙_}
-use mathlib.Core.Bool.{Bool, not}
+use mathlib.Core.Bool.{not}
 use lib.ListN.{drop}
 use denote.Ref.{now}
 use mir.Syntax.{w16}
@@ -11,13 +11,12 @@ use mir.Val.{SFits}
 use mir.Facts.{toZ-ofZ}
 use borrow.Author.Needs.{sfits-of}
 use Rattle.clock_time.specs.Errors.{checked}
-use Rattle.calendar.specs.TimeOfDay.{timeExists}
 use Rattle.dcf77.specs.Numbers.{checkedFrom}
 use Rattle.dcf77.proofs.CheckLaws.{timeChecks, time-checks}
 use Rattle.dcf77.proofs.reading.check_time.Statement.{statement}
 use Rattle.dcf77.proofs.reading.check_time.Tie as tie
 
--- the checks up to this one of the last four are passed
+-- the first n of the last four checks are passed
 abbrev Passed : ℕ → tie.Start → Type 0
 Passed n s =
     checkedFrom 8 (now (s .args .m))

@@ -1,4 +1,4 @@
--- The worked example of document 01, and the listing of no bytes. Assumes nothing.
+-- Worked examples of the listing. Assumes nothing.
 use Prim.Native.Nat.{ℕ}
 use mathlib.Core.Path.{_≡_, refl}
 use mathlib.Core.List.{List, [], _++_}

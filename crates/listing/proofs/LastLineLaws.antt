@@ -1,4 +1,4 @@
--- Numbers in decimal, digit by digit from the last, and texts that grow in a buffer. Assumes nothing.
+-- How the line of the totals is put together. Assumes nothing.
 use Prim.Native.Nat.{ℕ, zero, suc, _+_, _-_, _/_, _%_, _≤_, _<_}
 use native.Mathlib.Omega.{arith}
 use native.Mathlib.Nat.{le-of-lt, le-refl}

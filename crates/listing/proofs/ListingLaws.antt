@@ -1,4 +1,4 @@
--- Laws of the listing: over two lists one after the other, and up to the feed's first event. Assumes nothing.
+-- Laws of the listing over lists of bytes. Assumes nothing.
 use Prim.Native.Nat.{ℕ, suc, _+_, _-_, _≤_, _<_}
 use native.Mathlib.Omega.{arith}
 use native.Mathlib.Nat.{sub-zero, suc-add}

@@ -1,4 +1,4 @@
-// What is listed of a string: its reading, the line that says it, and how it counts.
+// What is listed of a string.
 use crate::Totals;
 use crate::line;
 use clock_time::ClockTime;

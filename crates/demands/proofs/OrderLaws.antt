@@ -6,8 +6,9 @@ use mathlib.Core.Logic.{_↔_, _⊎_, inl, inr}
 use mathlib.Core.Bool.{Bool, true, false, cond, true≢false}
 use mathlib.Core.List.{List, [], _∷_}
 use Rattle.clock_time.specs.Errors.{Answer, accepted, refused, Check, checked}
-use Rattle.clock_time.specs.Exit.{leaves}
-use Rattle.demands.specs.Ordered.{numbersOf, FirstHolds, NoneHolds, Ordered, Lent}
+use Rattle.clock_time.specs.Exit.{Exit, leaves}
+use Rattle.radio_clock.specs.Called.{statusOf, answered, left, counted, leaving}
+use Rattle.demands.specs.Ordered.{numbersOf, FirstHolds, NoneHolds, Ordered, Kept, Lent, KeptFromC}
 
 -- no answer is accepted and refused
 pub apart : {A : Type 0} {B : Type 0} {a : A} {n : ℕ} → accepted a ≡ refused n → B
@@ -56,7 +57,7 @@ module _ {A M : Type 0} (old new : M) where
   leaves-answer (accepted a) = refl
   leaves-answer (refused n) = refl
 
-  leaves-kept : (a : Answer A) (n : ℕ) → leaves old new a .answer ≡ refused n → leaves old new a .memory ≡ old
+  pub leaves-kept : (a : Answer A) → Kept old (leaves old new a)
   leaves-kept (accepted a) n h = apart h
   leaves-kept (refused m) n h = refl
 
@@ -78,3 +79,26 @@ module _ {A B : Type 0} (f : Answer A → Answer B) (g : A → B)
           → f (cond t (refused (c .number)) (checked cs a)) ≡ cond t (refused (c .number)) (checked cs (g a))
       go true rest = on-refused (c .number)
       go false rest = rest
+
+-- ---- calls from C
+pub leaving-kept : {A B M : Type 0} (old : M) (a : Answer A) (go : A → Exit B M) → ((x : A) → Kept old (go x))
+    → Kept old (leaving old a go)
+leaving-kept old (accepted x) go kept = kept x
+leaving-kept old (refused k) go kept = λ n h. refl
+
+pub answered-kept : {A : Type 0} (old : A) (a : Answer A) → KeptFromC old (answered old a)
+answered-kept old (accepted a) none = absurd (none refl)
+answered-kept old (refused k) none = refl
+
+module _ {A M : Type 0} (old : M) where
+  status-refused : (a : Answer A) → (statusOf a ≡ 0 → ⊥) → (n : ℕ) × (a ≡ refused n)
+  status-refused (accepted a) none = absurd (none refl)
+  status-refused (refused k) none = (k, refl)
+
+  pub left-kept : (e : Exit A M) → Kept old e → KeptFromC old (left e)
+  left-kept e kept none = let r = status-refused (e .answer) none in kept (r .0) (r .1)
+
+  pub counted-kept : (e : Exit A M) (n : A) → Kept old e → KeptFromC (old, n) (counted n e)
+  counted-kept e n kept none =
+      let r = status-refused (e .answer) none in
+      rw (kept (r .0) (r .1), r .1) refl

@@ -6,6 +6,7 @@ use mathlib.Core.List.{List, [], _∷_}
 use mathlib.Core.Option.{Option, none, some}
 use lib.Dec.{eqb, leb, ltb}
 use lib.ListN.{length, getD, set}
+use lib.IntN.{ℤ}
 use Rattle.clock_time.specs.Errors.{Answer, accepted, refused, given, checked}
 use Rattle.clock_time.specs.Writing.{writing, writeBack}
 use Rattle.calendar.specs.Date.{knownDate, daysSinceEpoch, dayNumber, weekdayNumber, weekdayOf}
@@ -31,12 +32,21 @@ use Rattle.recording.specs.Outcomes.{numbers, differences}
 use Rattle.recording.specs.Recording.{rule, outcomeAt, unfit, fillOutcomes, recorded, correctionChecks, updated}
 use Rattle.recording.specs.Recording.{correctMark}
 use Rattle.recording.proofs.Theorems as recordings
-use Rattle.demands.specs.Ordered.{Ordered, Lent}
+use Rattle.listing.specs.Line.{writeLine}
+use Rattle.listing.specs.Listing.{writeTotals}
+use Rattle.radio_clock.specs.Called.{leaving}
+use Rattle.radio_clock.specs.Numbers.{minuteNumbers, putNumbers, timeOf, gpsOf, minuteOf}
+use Rattle.radio_clock.specs.Strings.{kindNumberOf, kindNamed, readingNumbers, readNumbered, readInto, writeAs, writeFrom}
+use Rattle.radio_clock.specs.Strings.{unixTimeOf}
+use Rattle.radio_clock.specs.Minutes.{readMinuteInto, writeMinuteFrom}
+use Rattle.radio_clock.specs.Feed.{FeedMemory, feedInto}
+use Rattle.demands.specs.Ordered.{Ordered, Kept, Lent}
 use Rattle.demands.specs.Demand1.{textOrder, minuteOrder, linesAs, writerLines, gapLines, gapMinute, gapAnswer}
 use Rattle.demands.specs.Demand1.{Demand1}
 use Rattle.demands.specs.Demand2.{Demand2}
 use Rattle.demands.specs.Demand3.{Demand3}
-use Rattle.demands.proofs.OrderLaws.{ordered, lent, checked-map}
+use Rattle.demands.proofs.OrderLaws.{ordered, lent, checked-map, leaves-kept, leaving-kept, answered-kept}
+use Rattle.demands.proofs.OrderLaws.{left-kept, counted-kept}
 
 -- ---- demand 1
 text-order : {A : Type 0} (f : Format A) (s : List ℕ) → Ordered (textChecks f s) textOrder (readText f s)
@@ -121,10 +131,42 @@ correct-lent marks outcomes place mark =
     lent (recorded marks outcomes) (recorded marks′ outcomes′)
     (correctionChecks marks outcomes place mark) (differences outcomes outcomes′)
 
+-- calls from C
+put-kept : (numbers fields : List ℤ) → Kept fields (putNumbers numbers fields)
+unfolding putNumbers
+put-kept numbers fields = leaves-kept fields _ (checked (given 20 (ltb (length fields) (length numbers)) ∷ []) tt)
+
+read-kept : (n : ℕ) (s : List ℕ) (fields : List ℤ) → Kept fields (readInto n s fields)
+unfolding readInto
+read-kept n s fields = leaving-kept fields (readNumbered n s) _ (λ r. put-kept (readingNumbers r) fields)
+
+read-minute-kept : (m : List ℕ) (fields : List ℤ) → Kept fields (readMinuteInto m fields)
+unfolding readMinuteInto
+read-minute-kept m fields = leaving-kept fields (readMinute m) _ (λ a. put-kept (minuteNumbers a) fields)
+
+write-as-kept : (kind : Kind) (fields : List ℤ) (d : List ℕ) → Kept d (writeAs kind fields d)
+unfolding writeAs writeStandard writePzf writeGps writeElv writeText writeBack
+write-as-kept Standard fields d = leaving-kept d (timeOf fields) _ (λ t. writing-lent _ _ d .kept)
+write-as-kept Pzf fields d = leaving-kept d (timeOf fields) _ (λ t. writing-lent _ _ d .kept)
+write-as-kept Gps fields d = leaving-kept d (gpsOf fields) _ (λ g. writing-lent _ _ d .kept)
+write-as-kept Elv fields d = leaving-kept d (timeOf fields) _ (λ t. writing-lent _ _ d .kept)
+
+write-kept : (n : ℕ) (fields : List ℤ) (d : List ℕ) → Kept d (writeFrom n fields d)
+unfolding writeFrom
+write-kept n fields d = leaving-kept d (kindNamed n) _ (λ kind. write-as-kept kind fields d)
+
+write-minute-kept : (fields : List ℤ) (d : List ℕ) → Kept d (writeMinuteFrom fields d)
+unfolding writeMinuteFrom writeMinute writeBack
+write-minute-kept fields d = leaving-kept d (minuteOf fields) _ (λ a. writing-lent _ _ d .kept)
+
+feed-kept : (old : FeedMemory) (s : List ℕ) (limit : ℕ) → Kept old (feedInto old s limit)
+unfolding feedInto
+feed-kept old s limit = leaves-kept old _ (checked (given 20 (ltb (length (old .state)) 68) ∷ []) tt)
+
 pub demand-1 : Demand1
 unfolding
     readStandard readPzf readGps readElv writeStandard writePzf writeGps writeElv writeText writeBack writeMinute
-    unixTime dayNumber weekdayOf
+    unixTime dayNumber weekdayOf writeLine writeTotals
 demand-1 =
     record {
       read-standard = text-order standard;
@@ -149,6 +191,19 @@ demand-1 =
           ordered (daysSinceEpoch year month day) (given 5 (not (knownDate year month day)) ∷ []) _ refl;
       weekday = λ year month day.
           ordered (weekdayNumber year month day) (given 5 (not (knownDate year month day)) ∷ []) _ refl;
+      write-line = λ t d. writing-lent _ _ d;
+      write-totals = λ t d. writing-lent _ _ d;
+      c-kind = λ old s. answered-kept old (kindNumberOf s);
+      c-read = λ n s fields. left-kept fields (readInto n s fields) (read-kept n s fields);
+      c-write = λ n fields d old. counted-kept d (writeFrom n fields d) old (write-kept n fields d);
+      c-read-minute = λ m fields. left-kept fields (readMinuteInto m fields) (read-minute-kept m fields);
+      c-write-minute = λ fields d old. counted-kept d (writeMinuteFrom fields d) old (write-minute-kept fields d);
+      c-unix-time = λ old fields. answered-kept old (unixTimeOf fields);
+      c-outcome-at = λ old marks place. answered-kept old (outcomeAt marks place);
+      c-fill-outcomes = λ marks outcomes. left-kept outcomes _ (fill-lent marks outcomes .kept);
+      c-correct-mark = λ marks outcomes place mark old.
+          counted-kept (recorded marks outcomes) _ old (correct-lent marks outcomes place mark .kept);
+      c-feed = λ old s limit. left-kept old (feedInto old s limit) (feed-kept old s limit);
     }
 
 -- ---- demand 2

@@ -7,6 +7,7 @@ use mathlib.Core.List.{List, [], _∷_}
 use mathlib.Core.Option.{Option, none, some}
 use lib.Dec.{eqb, leb, ltb}
 use lib.ListN.{length, getD}
+use lib.IntN.{ℤ}
 use Rattle.clock_time.specs.Errors.{Answer, Check, given, checked}
 use Rattle.clock_time.specs.Same.{sameTime}
 use Rattle.clock_time.specs.Writing.{readsBack, writing}
@@ -28,7 +29,14 @@ use Rattle.dcf77.specs.declared.MinuteTime.{MinuteTime}
 use Rattle.recording.specs.Gaps.{isGap, gapBefore}
 use Rattle.recording.specs.Rule.{runBetween}
 use Rattle.recording.specs.Recording.{rule, outcomeAt, unfit, fillOutcomes, correctionChecks, correctMark, recorded}
-use Rattle.demands.specs.Ordered.{Ordered, Lent}
+use Rattle.listing.specs.Line.{lineOf, writeLine}
+use Rattle.listing.specs.Listing.{totalsLine, writeTotals}
+use Rattle.listing.specs.declared.Totals.{Totals}
+use Rattle.radio_clock.specs.Called.{answered, left, counted}
+use Rattle.radio_clock.specs.Strings.{kindNumberOf, readInto, writeFrom, unixTimeOf}
+use Rattle.radio_clock.specs.Minutes.{readMinuteInto, writeMinuteFrom}
+use Rattle.radio_clock.specs.Feed.{FeedMemory, feedInto}
+use Rattle.demands.specs.Ordered.{Ordered, Lent, KeptFromC}
 
 -- "Order for text: 1, 2, 3, 4, 8, 9, 5, 6, 7." (01, Refusal numbers)
 abbrev pub textOrder : List ℕ
@@ -104,3 +112,22 @@ pub record Demand1 : Type 0 where
       Ordered (given 5 (not (knownDate year month day)) ∷ []) (5 ∷ []) (dayNumber year month day)
   pub weekday : (year month day : ℕ) →
       Ordered (given 5 (not (knownDate year month day)) ∷ []) (5 ∷ []) (weekdayOf year month day)
+  -- the lines of a listing
+  pub write-line : (t : ClockTime) (d : List ℕ) →
+      Lent (writerLines (isValid t) (lineOf t) d) (23 ∷ 20 ∷ []) d (writeLine t d)
+  pub write-totals : (t : Totals) (d : List ℕ) →
+      Lent (writerLines true (totalsLine t) d) (23 ∷ 20 ∷ []) d (writeTotals t d)
+  -- from C: each definition is over the entries above, and a status other than 0 leaves what was lent
+  pub c-kind : (old : ℕ) (s : List ℕ) → KeptFromC old (answered old (kindNumberOf s))
+  pub c-read : (n : ℕ) (s : List ℕ) (fields : List ℤ) → KeptFromC fields (left (readInto n s fields))
+  pub c-write : (n : ℕ) (fields : List ℤ) (d : List ℕ) (old : ℕ) →
+      KeptFromC (d, old) (counted old (writeFrom n fields d))
+  pub c-read-minute : (m : List ℕ) (fields : List ℤ) → KeptFromC fields (left (readMinuteInto m fields))
+  pub c-write-minute : (fields : List ℤ) (d : List ℕ) (old : ℕ) →
+      KeptFromC (d, old) (counted old (writeMinuteFrom fields d))
+  pub c-unix-time : (old : ℤ) (fields : List ℤ) → KeptFromC old (answered old (unixTimeOf fields))
+  pub c-outcome-at : (old : ℕ) (marks : List ℕ) (place : ℕ) → KeptFromC old (answered old (outcomeAt marks place))
+  pub c-fill-outcomes : (marks outcomes : List ℕ) → KeptFromC outcomes (left (fillOutcomes marks outcomes))
+  pub c-correct-mark : (marks outcomes : List ℕ) (place mark old : ℕ) →
+      KeptFromC (recorded marks outcomes, old) (counted old (correctMark marks outcomes place mark))
+  pub c-feed : (old : FeedMemory) (s : List ℕ) (limit : ℕ) → KeptFromC old (left (feedInto old s limit))

@@ -6,6 +6,7 @@ use mathlib.Core.Bool.{true, false}
 use mathlib.Core.List.{List, [], _∷_}
 use Rattle.clock_time.specs.Errors.{Answer, accepted, refused, Check}
 use Rattle.clock_time.specs.Exit.{Exit}
+use Rattle.radio_clock.specs.Called.{Called}
 
 -- the numbers of lines of the table of refusals, in their order
 abbrev pub numbersOf : List Check → List ℕ
@@ -30,6 +31,13 @@ pub record Ordered {A : Type 0} (lines : List Check) (order : List ℕ) (answer 
   pub accepted-exactly : ((a : A) × (answer ≡ accepted a)) ↔ NoneHolds lines
 
 -- "A refusal hands back its number and nothing else, and changes no byte or number of the memory lent." (demand 1)
+abbrev pub Kept : {A M : Type 0} → M → Exit A M → Type 0
+Kept old e = (n : ℕ) → e .answer ≡ refused n → e .memory ≡ old
+
 pub record Lent {A M : Type 0} (lines : List Check) (order : List ℕ) (old : M) (e : Exit A M) : Type 0 where
   pub ordered : Ordered lines order (e .answer)
-  pub kept : (n : ℕ) → e .answer ≡ refused n → e .memory ≡ old
+  pub kept : Kept old e
+
+-- the same of a call from C, which gets 0 where nothing is refused
+abbrev pub KeptFromC : {M : Type 0} → M → Called M → Type 0
+KeptFromC old c = (c .status ≡ 0 → ⊥) → c .memory ≡ old

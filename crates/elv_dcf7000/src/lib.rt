@@ -133,12 +133,12 @@ pub fn read_elv(s: &[u8]) -> ReadAnswer
     ensures { λ r. ⌜ readAnswer r ≡ readElv (now (s .entry)) ⌝ }
 {
     if s.len() != 21 {
-        return ReadAnswer::Refused(first_error(s));
+        return ReadAnswer::Refused(first_error(&s[..]));
     }
     if fits(s) {
         return read_fitting(s);
     }
-    ReadAnswer::Refused(first_error(s))
+    ReadAnswer::Refused(first_error(&s[..]))
 }
 
 fn flag_sum(summer: bool, change: bool, unsynchronised: bool) -> u8

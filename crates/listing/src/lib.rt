@@ -17,7 +17,6 @@ mod copy;
 mod entry;
 mod last_line;
 mod line;
-mod offset;
 
 use entry::Line;
 

@@ -16,7 +16,7 @@ ghost use Rattle.meinberg_gps.specs.Gps.{sameGps, writeGps};
 
 mod digits;
 mod offset;
-mod parts;
+pub mod parts;
 mod places;
 mod position;
 mod signed;
@@ -102,12 +102,12 @@ pub fn read_gps(s: &[u8]) -> GpsAnswer
     ensures { λ r. ⌜ gpsAnswer r ≡ readGps (now (s .entry)) ⌝ }
 {
     if s.len() != 66 {
-        return GpsAnswer::Refused(table::first_error(s));
+        return GpsAnswer::Refused(table::first_error(&s[..]));
     }
     if places::fits(s) {
         return read_fitting(s);
     }
-    GpsAnswer::Refused(table::first_error(s))
+    GpsAnswer::Refused(table::first_error(&s[..]))
 }
 
 fn same_gps(a: GpsTime, b: GpsTime) -> bool

@@ -29,7 +29,8 @@ fn decimals(n: u32) -> [u8; 4]
     ]
 }
 
-pub(crate) fn offset_text(offset: i16) -> [u8; 6]
+// The bytes of a UTC offset, from its sign on.
+pub fn offset_text(offset: i16) -> [u8; 6]
     ensures { λ r. ⌜ r ≡ offsetText offset ⌝ }
 {
     let size = signed::size(offset as i32);

@@ -136,12 +136,12 @@ pub fn read_pzf(s: &[u8]) -> ReadAnswer
     ensures { λ r. ⌜ readAnswer r ≡ readPzf (now (s .entry)) ⌝ }
 {
     if s.len() != 32 {
-        return ReadAnswer::Refused(first_error(s));
+        return ReadAnswer::Refused(first_error(&s[..]));
     }
     if fits(s) {
         return layout::check_clock(fields(s), false);
     }
-    ReadAnswer::Refused(first_error(s))
+    ReadAnswer::Refused(first_error(&s[..]))
 }
 
 fn utc_letter(offset: i16) -> u8

@@ -130,12 +130,12 @@ pub fn read_standard(s: &[u8]) -> ReadAnswer
     ensures { λ r. ⌜ readAnswer r ≡ readStandard (now (s .entry)) ⌝ }
 {
     if s.len() != 32 {
-        return ReadAnswer::Refused(first_error(s));
+        return ReadAnswer::Refused(first_error(&s[..]));
     }
     if fits(s) {
         return layout::check_clock(fields(s), false);
     }
-    ReadAnswer::Refused(first_error(s))
+    ReadAnswer::Refused(first_error(&s[..]))
 }
 
 fn zone_letter(offset: i16, summer: bool) -> u8

@@ -14,6 +14,9 @@ use recording::CorrectAnswer;
 use recording::FillAnswer;
 use recording::OutcomeAnswer;
 
+// No place of a recording.
+const NOWHERE: usize = 100001;
+
 // Puts the marks that the digits stand for, and returns how many they are.
 fn load_digits(digits: &[u8], m: &mut Recording) -> usize {
     let mut n = 0;
@@ -196,23 +199,29 @@ fn put_corrected(
     put_right(out, n, m, length, outcomes::first(o, count), &mut anew)
 }
 
+// Puts what a correction answers, and leaves, where the outcomes are right but for a number put at a place of them.
+fn put_mended(
+    out: &mut Buffer,
+    n: usize,
+    words: &[u8],
+    wrong: usize,
+    number: u32,
+    place: usize,
+    mark: u8,
+) -> usize {
+    let mut m = [3u8; 100001];
+    let mut o = [7u32; 100001];
+    let length = load(words, &mut m);
+    fill_outcomes(&m, length, &mut o, length);
+    outcomes::put_number(&mut o, wrong, number);
+    put_corrected(out, n, &mut m, length, &mut o, length, place, mark)
+}
+
 fn correct(line: &[u8], out: &mut Buffer, n: usize) -> usize {
     let f = Fields::read(line, b"correct N B T");
     if f.fits {
-        let mut m = [3u8; 100001];
-        let mut o = [7u32; 100001];
-        let length = load(text::rest(line, f.place_at(2)), &mut m);
-        fill_outcomes(&m, length, &mut o, length);
-        return put_corrected(
-            out,
-            n,
-            &mut m,
-            length,
-            &mut o,
-            length,
-            f.place_at(0),
-            f.u8_at(1),
-        );
+        let words = text::rest(line, f.place_at(2));
+        return put_mended(out, n, words, NOWHERE, 0, f.place_at(0), f.u8_at(1));
     }
     n
 }
@@ -220,18 +229,14 @@ fn correct(line: &[u8], out: &mut Buffer, n: usize) -> usize {
 fn mend(line: &[u8], out: &mut Buffer, n: usize) -> usize {
     let f = Fields::read(line, b"mend N N N B T");
     if f.fits {
-        let mut m = [3u8; 100001];
-        let mut o = [7u32; 100001];
-        let length = load(text::rest(line, f.place_at(4)), &mut m);
-        fill_outcomes(&m, length, &mut o, length);
-        outcomes::put_number(&mut o, f.place_at(0), f.u32_at(1));
-        return put_corrected(
+        let words = text::rest(line, f.place_at(4));
+        let number = f.u32_at(1);
+        return put_mended(
             out,
             n,
-            &mut m,
-            length,
-            &mut o,
-            length,
+            words,
+            f.place_at(0),
+            number,
             f.place_at(2),
             f.u8_at(3),
         );

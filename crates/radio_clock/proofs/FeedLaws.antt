@@ -1,11 +1,11 @@
 -- Laws of the feed's state and event as C has them: they fit bytes, and what is stored is the state. Assumes nothing.
 use Prim.Native.Nat.{ℕ, suc, _<_, _≤_}
 use native.Mathlib.Omega.{arith}
-use mathlib.Core.Path.{_≡_, refl, sym, ap, subst, _∙_}
+use mathlib.Core.Path.{_≡_, sym, ap, subst, _∙_}
 use mathlib.Core.Bool.{Bool, true, false, cond, _||_}
 use mathlib.Core.List.{List, [], _∷_, _++_, append-assoc, append-nil}
 use lib.Dec.{eqb}
-use lib.ListN.{length, getD, take, drop, set, length-append}
+use lib.ListN.{length, getD, take, drop, set, length-append, length-set}
 use lib.Seq.{append-snoc, drop-cons, drop-length, set-at}
 use borrow.Author.Tests.{le-ltb}
 use Rattle.clock_time.specs.declared.WriteAnswer.{WriteAnswer}
@@ -15,44 +15,76 @@ use Rattle.framing.specs.declared.Mode.{Mode}
 use Rattle.framing.specs.declared.Mode.the-variants.{Outside, Inside, Overlong}
 use Rattle.framing.specs.declared.Framer.{Framer}
 use Rattle.framing.specs.declared.Fed.{Fed}
-use Rattle.framing.specs.Step.{FeedAnswer, answerOf, placeOf, etxAt, plainAt, stepOf}
+use Rattle.framing.specs.Step.{FeedAnswer, nothingYet, answerOf, placeOf, etxAt, plainAt, stepOf}
 use Rattle.framing.specs.Feed.{Feeding, feeding, fed, isNothing, later, feedOf}
 use Rattle.framing.proofs.StepLaws.{inside-room, step-cases}
 use Rattle.radio_clock.specs.Called.{called, left}
 use Rattle.radio_clock.specs.Feed.{modeNumber, framerIn, stateBytes, eventNumber, feedMemory, feedInto}
 
+-- ---- what every step keeps, a feed keeps
+module _
+    (P : Framer → FeedAnswer → Type 0)
+    (state : (f : Framer) (a : FeedAnswer) → P f a → P f nothingYet)
+    (step : (f : Framer) (b : ℕ) → P f nothingYet → P (stepOf f b .framer) (stepOf f b .answer))
+  where
+    feed-keeps : (s : List ℕ) (f : Framer) → P f nothingYet → P (feedOf f s .framer) (feedOf f s .answer)
+    unfolding feedOf later
+    feed-keeps [] f h = h
+    feed-keeps (b ∷ s) f h =
+        let w = step f b h in
+        go (isNothing (stepOf f b .answer)) w (feed-keeps s (stepOf f b .framer) (state _ _ w))
+      where
+        all : Bool → Feeding
+        all t =
+            cond t (later 1 (feedOf (stepOf f b .framer) s)) (feeding (stepOf f b .framer) (stepOf f b .answer) 1)
+
+        go : (t : Bool) → P (stepOf f b .framer) (stepOf f b .answer)
+            → P (feedOf (stepOf f b .framer) s .framer) (feedOf (stepOf f b .framer) s .answer)
+            → P (all t .framer) (all t .answer)
+        go true one more = more
+        go false one more = one
+
 -- ---- a count and an event fit bytes
 abbrev Small : Framer → FeedAnswer → Type 0
 Small f a = (f .count ≤ 255) × (eventNumber a ≤ 255)
 
-step-small : (f : Framer) (b : ℕ) → f .count ≤ 255 → Small (stepOf f b .framer) (stepOf f b .answer)
+step-small : (f : Framer) (b : ℕ) → Small f nothingYet → Small (stepOf f b .framer) (stepOf f b .answer)
 step-small f b h = step-cases (λ r. Small (r .framer) (r .answer)) f b (λ e. (omega arith, omega arith)) etx plain
   where
     etx : b ≡ 3 → (m : Mode) → placeOf (f .count) (f .mode) ≡ m → Small (etxAt m f .framer) (etxAt m f .answer)
-    etx e Outside at = (h, omega arith)
+    etx e Outside at = h
     etx e Inside at = let room = inside-room (f .count) (f .mode) at in (omega arith, omega arith)
-    etx e Overlong at = (h, omega arith)
+    etx e Overlong at = (h .0, omega arith)
 
     plain : eqb b 2 || eqb b 3 ≡ false → (m : Mode) → placeOf (f .count) (f .mode) ≡ m
         → Small (plainAt m f b .framer) (plainAt m f b .answer)
-    plain e Outside at = (h, omega arith)
+    plain e Outside at = h
     plain e Inside at = let room = inside-room (f .count) (f .mode) at in (omega arith, omega arith)
-    plain e Overlong at = (h, omega arith)
+    plain e Overlong at = h
 
 feed-small : (s : List ℕ) (f : Framer) → f .count ≤ 255 → Small (feedOf f s .framer) (feedOf f s .answer)
-unfolding feedOf later
-feed-small [] f h = (h, omega arith)
-feed-small (b ∷ s) f h =
-    go (isNothing (stepOf f b .answer)) (feed-small s (stepOf f b .framer) (step-small f b h .0))
-  where
-    all : Bool → Feeding
-    all t =
-        cond t (later 1 (feedOf (stepOf f b .framer) s)) (feeding (stepOf f b .framer) (stepOf f b .answer) 1)
+feed-small s f h = feed-keeps Small (λ f a w. (w .0, omega arith)) step-small s f (h, omega arith)
 
-    go : (t : Bool) → Small (feedOf (stepOf f b .framer) s .framer) (feedOf (stepOf f b .framer) s .answer)
-        → Small (all t .framer) (all t .answer)
-    go true more = more
-    go false more = step-small f b h
+-- ---- 66 bytes stay 66
+abbrev Whole : Framer → FeedAnswer → Type 0
+Whole f a = length (f .bytes) ≡ 66
+
+step-whole : (f : Framer) (b : ℕ) → length (f .bytes) ≡ 66 → length (stepOf f b .framer .bytes) ≡ 66
+step-whole f b h = step-cases (λ r. length (r .framer .bytes) ≡ 66) f b (λ e. simp length-set h) etx plain
+  where
+    etx : b ≡ 3 → (m : Mode) → placeOf (f .count) (f .mode) ≡ m → length (etxAt m f .framer .bytes) ≡ 66
+    etx e Outside at = h
+    etx e Inside at = simp length-set h
+    etx e Overlong at = h
+
+    plain : eqb b 2 || eqb b 3 ≡ false → (m : Mode) → placeOf (f .count) (f .mode) ≡ m
+        → length (plainAt m f b .framer .bytes) ≡ 66
+    plain e Outside at = h
+    plain e Inside at = simp length-set h
+    plain e Overlong at = h
+
+pub feed-whole : (s : List ℕ) (f : Framer) → length (f .bytes) ≡ 66 → length (feedOf f s .framer .bytes) ≡ 66
+feed-whole = feed-keeps Whole (λ f a w. w) step-whole
 
 pub fed-small : (r : Fed) (f : Framer) (s : List ℕ) → f .count ≤ 255 → fed r ≡ feedOf f s
     → (r .framer .count ≤ 255) × (eventNumber (answerOf (r .event)) ≤ 255)

@@ -2,3 +2,7 @@
 pub mod CalledLaws
 pub mod NumberLaws
 pub mod FeedLaws
+pub mod ValidLaws
+pub mod BackLaws
+pub mod RoundLaws
+pub mod Theorems

@@ -2,11 +2,9 @@
 use Prim.Native.Nat.{ℕ}
 use mathlib.Core.List.{List}
 use lib.IntN.{ℤ}
-use Rattle.clock_time.specs.Errors.{Answer}
 use Rattle.clock_time.specs.Exit.{Exit}
 use Rattle.clock_time.specs.Writing.{Outcome}
 use Rattle.dcf77.specs.Minute.{readMinute, writeMinute}
-use Rattle.dcf77.specs.declared.MinuteTime.{MinuteTime}
 use Rattle.radio_clock.specs.Called.{leaving}
 use Rattle.radio_clock.specs.Numbers.{minuteNumbers, putNumbers, minuteOf}
 

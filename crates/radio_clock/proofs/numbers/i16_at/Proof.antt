@@ -1,7 +1,7 @@
 -- `radio_clock::numbers::i16_at` meets its contract. Assumes nothing.
 use borrow.Author.Needs.{needs}
 use mathlib.Core.Path.{_≡_, sym, ap, _∙_}
-use mathlib.Core.Bool.{true, false}
+use mathlib.Core.Bool.{true}
 use lib.IntN.{pos, negsuc}
 use mir.Syntax.{w32}
 use mir.Facts.{toZ-ofZ}

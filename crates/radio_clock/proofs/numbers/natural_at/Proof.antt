@@ -2,8 +2,7 @@
 use borrow.Author.Needs.{needs}
 use native.Mathlib.Omega.{arith}
 use mathlib.Core.Path.{_≡_, sym, ap, _∙_}
-use mathlib.Core.Bool.{Bool, true}
-use lib.IntN.{ℤ, pos}
+use lib.IntN.{pos}
 use mir.Syntax.{w32}
 use Rattle.radio_clock.specs.Numbers.{within, natural}
 use Rattle.radio_clock.proofs.NumberLaws.{within-above, within-small, natural-within, natural-not-within}

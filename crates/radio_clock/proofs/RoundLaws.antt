@@ -1,0 +1,177 @@
+-- What is read is written back through numbers, for every kind, and calls of the feed go on. Assumes nothing.
+use Prim.Native.Nat.{ℕ, _≤_}
+use native.Mathlib.Omega.{arith}
+use mathlib.Core.Path.{_≡_, refl, _∙_}
+use mathlib.Core.Bool.{true, _&&_}
+use mathlib.Core.List.{List, _++_}
+use lib.ListN.{length, take, drop, replicate}
+use lib.IntN.{ℤ}
+use lib.Seq.{length-take-le}
+use borrow.Author.Tests.{le-ltb, not-false}
+use Rattle.clock_time.specs.Errors.{Answer, accepted, refused}
+use Rattle.clock_time.specs.Writing.{Outcome}
+use Rattle.clock_time.specs.declared.ClockTime.{ClockTime}
+use Rattle.clock_time.proofs.Tests.{both}
+use Rattle.calendar.specs.UnixTime.{isValid, instantOf, unixTime}
+use Rattle.layout.specs.Layout.{run}
+use Rattle.meinberg_standard.specs.Standard.{writeStandard}
+use Rattle.meinberg_pzf.specs.Pzf.{writePzf}
+use Rattle.elv_dcf7000.specs.Elv.{writeElv}
+use Rattle.meinberg_standard.proofs.Theorems as standard-string
+use Rattle.meinberg_pzf.proofs.Theorems as pzf-string
+use Rattle.elv_dcf7000.proofs.Theorems as elv-string
+use Rattle.meinberg_gps.proofs.Theorems as gps-string
+use Rattle.meinberg_gps.specs.Gps.{gps, gpsFields, readGps}
+use Rattle.meinberg_gps.specs.Position.{positionDigits, positionFault, positionOf, latitude, longitude, inRange}
+use Rattle.meinberg_gps.specs.declared.GpsTime.{GpsTime}
+use Rattle.meinberg_gps.proofs.AlignedLaws.{value-small}
+use Rattle.meinberg_gps.proofs.PositionLaws.{position-digits}
+use Rattle.dcf77.specs.Minute.{minuteFields, readMinute}
+use Rattle.dcf77.specs.declared.MinuteTime.{MinuteTime}
+use Rattle.dcf77.proofs.MarkLaws.{small-sure, binary-below}
+use Rattle.dcf77.proofs.Theorems as minute
+use Rattle.time_string.specs.Kind.{Reading, time, timeAndPosition, plain, located, readAs}
+use Rattle.time_string.specs.declared.Kind.{Kind}
+use Rattle.time_string.specs.declared.Kind.the-variants.{Standard, Pzf, Gps, Elv}
+use Rattle.framing.specs.Step.{start}
+use Rattle.framing.specs.Feed.{feedOf}
+use Rattle.radio_clock.specs.Called.{andThen, leaving}
+use Rattle.radio_clock.specs.Numbers.{timeNumbers, gpsNumbers, minuteNumbers, timeOf}
+use Rattle.radio_clock.specs.Held.{clockOf}
+use Rattle.radio_clock.specs.Strings.{kindNamed, readingNumbers, readNumbered, writeAs, writeFrom, unixTimeOf}
+use Rattle.radio_clock.specs.Minutes.{writeMinuteFrom}
+use Rattle.radio_clock.specs.Feed.{modeOf, framerIn, stateBytes, eventNumber, feedMemory, feedInto}
+use Rattle.radio_clock.proofs.NumberLaws.{first-14}
+use Rattle.radio_clock.proofs.ValidLaws.{valid-holds, standard-valid, pzf-valid, elv-valid, gps-valid}
+use Rattle.radio_clock.proofs.ValidLaws.{minute-valid}
+use Rattle.radio_clock.proofs.BackLaws.{time-back, gps-back, minute-back, state-back}
+use Rattle.radio_clock.proofs.FeedLaws.{feed-whole}
+
+-- ---- what was accepted
+refused-accepted : {A B : Type 0} {a : A} {k : ℕ} → refused k ≡ accepted a → B
+refused-accepted e = let z : _≡_ {A = ℕ} 0 1 = cc in absurd (omega arith)
+
+plain-time : (a : Answer ClockTime) (r : Reading) → plain a ≡ accepted r
+    → (t : ClockTime) × (a ≡ accepted t) × (r ≡ time t)
+plain-time (accepted t) r h = (t, refl, cc)
+plain-time (refused k) r h = refused-accepted h
+
+located-time : (a : Answer GpsTime) (r : Reading) → located a ≡ accepted r
+    → (g : GpsTime) × (a ≡ accepted g) × (r ≡ timeAndPosition g)
+located-time (accepted g) r h = (g, refl, cc)
+located-time (refused k) r h = refused-accepted h
+
+kind-read : {B : Type 0} (a : Answer Kind) (s : List ℕ) (r : Reading) → andThen a (λ k. readAs k s) ≡ accepted r
+    → ((k : Kind) → a ≡ accepted k → readAs k s ≡ accepted r → B) → B
+kind-read (accepted k) s r h go = go k refl h
+kind-read (refused j) s r h go = refused-accepted h
+
+-- ---- numbers of a valid reading
+whole : (t : ClockTime) → take 14 (timeNumbers t) ≡ timeNumbers t
+unfolding timeNumbers
+whole t = refl
+
+-- a clock time handed on as its numbers
+module _ (t : ClockTime) (h : isValid t ≡ true) where
+  handed-on : (write : ClockTime → List ℕ → Outcome) (d : List ℕ)
+      → leaving d (timeOf (timeNumbers t)) (λ x. write x d) ≡ write t d
+  handed-on write d = rw (time-back t (valid-holds t h))
+
+  instant-on : (z : List ℤ) → take 14 z ≡ timeNumbers t → unixTimeOf z ≡ accepted (instantOf t)
+  unfolding unixTimeOf unixTime
+  instant-on z e = rw (e, time-back t (valid-holds t h)) (simp h)
+
+height-small : (s : List ℕ) (g : GpsTime) → readGps s ≡ accepted g → g .position .height ≤ 65535
+unfolding gps gpsFields positionOf positionFault
+height-small s g h =
+    let r = gps-string.accepted-exactly s g .0 h in
+    let w = both (positionDigits s && inRange latitude s) (inRange longitude s) (not-false _ (r .0 .position)) in
+    let digits = both (positionDigits s) (inRange latitude s) (w .0) .0 in
+    let small = value-small (run 60 4 s) (position-digits s digits .height-plain) in
+    rw (r .1) (omega arith)
+
+marks-small : (m : List ℕ) (a : MinuteTime) → readMinute m ≡ accepted a → a .detail .marks ≤ 65535
+unfolding minuteFields
+marks-small m a h =
+    let r = minute.accepted-exactly m a .0 h in
+    let small = binary-below m (small-sure m (r .0 .sure)) 14 1 in
+    rw (r .1) (omega arith)
+
+-- ---- by kind
+module _ (s : List ℕ) (r : Reading) where
+  write-kind : (k : Kind) → readAs k s ≡ accepted r → (d : List ℕ) → length s ≤ length d
+      → writeAs k (readingNumbers r) d ≡ record { answer = accepted (length s); memory = s ++ drop (length s) d }
+  unfolding readAs writeAs
+  write-kind Standard h d room =
+      let w = plain-time _ r h in
+      rw (w .2) (handed-on (w .0) (standard-valid s (w .0) (w .1)) writeStandard d
+      ∙ standard-string.write-read s (w .0) (w .1) d room)
+  write-kind Pzf h d room =
+      let w = plain-time _ r h in
+      rw (w .2) (handed-on (w .0) (pzf-valid s (w .0) (w .1)) writePzf d
+      ∙ pzf-string.write-read s (w .0) (w .1) d room)
+  write-kind Gps h d room =
+      let w = located-time _ r h in
+      let g = w .0 in
+      let holds = valid-holds (g .time) (gps-valid s g (w .1)) in
+      rw (w .2, gps-back g holds (height-small s g (w .1))) (gps-string.write-read s g (w .1) d room)
+  write-kind Elv h d room =
+      let w = plain-time _ r h in
+      rw (w .2) (handed-on (w .0) (elv-valid s (w .0) (w .1)) writeElv d
+      ∙ elv-string.write-read s (w .0) (w .1) d room)
+
+  valid-kind : (k : Kind) → readAs k s ≡ accepted r
+      → (isValid (clockOf r) ≡ true) × (take 14 (readingNumbers r) ≡ timeNumbers (clockOf r))
+  unfolding readAs gpsNumbers
+  valid-kind Standard h =
+      let w = plain-time _ r h in rw (w .2) (standard-valid s (w .0) (w .1), whole (w .0))
+  valid-kind Pzf h = let w = plain-time _ r h in rw (w .2) (pzf-valid s (w .0) (w .1), whole (w .0))
+  valid-kind Gps h = let w = located-time _ r h in rw (w .2) (gps-valid s (w .0) (w .1), first-14 (w .0 .time) _)
+  valid-kind Elv h = let w = plain-time _ r h in rw (w .2) (elv-valid s (w .0) (w .1), whole (w .0))
+
+-- ---- the results
+pub write-read : (n : ℕ) (s : List ℕ) (r : Reading) → readNumbered n s ≡ accepted r
+    → (d : List ℕ) → length s ≤ length d
+    → writeFrom n (readingNumbers r) d ≡ record { answer = accepted (length s); memory = s ++ drop (length s) d }
+unfolding readNumbered writeFrom
+write-read n s r h d room = kind-read (kindNamed n) s r h (λ k e read. rw e (write-kind s r k read d room))
+
+pub unix-time-read : (n : ℕ) (s : List ℕ) (r : Reading) → readNumbered n s ≡ accepted r
+    → unixTimeOf (readingNumbers r) ≡ accepted (instantOf (clockOf r))
+unfolding readNumbered
+unix-time-read n s r h =
+    kind-read (kindNamed n) s r h
+    (λ k e read. let w = valid-kind s r k read in instant-on (clockOf r) (w .0) (readingNumbers r) (w .1))
+
+pub write-read-minute : (m : List ℕ) (a : MinuteTime) → readMinute m ≡ accepted a
+    → (d : List ℕ) → length m ≤ length d
+    → writeMinuteFrom (minuteNumbers a) d ≡ record { answer = accepted (length m); memory = m ++ drop (length m) d }
+unfolding writeMinuteFrom
+write-read-minute m a h d room =
+    rw (minute-back a (valid-holds (a .time) (minute-valid m a h)) (marks-small m a h))
+    (minute.write-read m a h d room)
+
+-- ---- the feed
+pub zero-state : framerIn (replicate 68 0) ≡ start
+unfolding framerIn modeOf
+zero-state = refl
+
+state-whole : (state : List ℕ) → 68 ≤ length state → length (framerIn state .bytes) ≡ 66
+unfolding framerIn
+state-whole state room = length-take-le 66 state (omega arith)
+
+feed-room : (state : List ℕ) (taken event : ℕ) (s : List ℕ) (limit : ℕ) → 68 ≤ length state
+    → let r = feedOf (framerIn state) (take limit s) in
+    feedInto (feedMemory state taken event) s limit .memory
+    ≡ feedMemory (stateBytes (r .framer) ++ drop 68 state) (r .taken) (eventNumber (r .answer))
+unfolding feedInto
+feed-room state taken event s limit room = simp (le-ltb _ _ room)
+
+pub feed-goes-on : (state : List ℕ) (taken event : ℕ) (s : List ℕ) (limit : ℕ) → 68 ≤ length state
+    → let after = feedInto (feedMemory state taken event) s limit .memory in
+    (framerIn (after .state) ≡ feedOf (framerIn state) (take limit s) .framer)
+    × (after .taken ≡ feedOf (framerIn state) (take limit s) .taken)
+feed-goes-on state taken event s limit room =
+    let r = feedOf (framerIn state) (take limit s) in
+    rw (feed-room state taken event s limit room)
+    (state-back (r .framer) (drop 68 state) (feed-whole (take limit s) (framerIn state) (state-whole state room)), refl)

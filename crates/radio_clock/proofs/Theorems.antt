@@ -1,0 +1,59 @@
+-- The main results of the C face: nothing is lost on the way to C and back. Assumes nothing.
+use Prim.Native.Nat.{ℕ, _≤_}
+use mathlib.Core.Path.{_≡_}
+use mathlib.Core.List.{List, _++_}
+use lib.ListN.{length, take, drop, replicate}
+use Rattle.clock_time.specs.Errors.{accepted}
+use Rattle.clock_time.specs.declared.ClockTime.{ClockTime}
+use Rattle.calendar.specs.UnixTime.{instantOf}
+use Rattle.time_string.specs.Kind.{Reading}
+use Rattle.dcf77.specs.Minute.{readMinute}
+use Rattle.dcf77.specs.declared.MinuteTime.{MinuteTime}
+use Rattle.framing.specs.declared.Framer.{Framer}
+use Rattle.framing.specs.Step.{start}
+use Rattle.framing.specs.Feed.{feedOf}
+use Rattle.radio_clock.specs.Numbers.{timeNumbers, minuteNumbers, timeOf}
+use Rattle.radio_clock.specs.Held.{Holds, clockOf}
+use Rattle.radio_clock.specs.Strings.{readingNumbers, readNumbered, writeFrom, unixTimeOf}
+use Rattle.radio_clock.specs.Minutes.{writeMinuteFrom}
+use Rattle.radio_clock.specs.Feed.{framerIn, stateBytes, feedMemory, feedInto}
+use Rattle.radio_clock.proofs.BackLaws as back
+use Rattle.radio_clock.proofs.RoundLaws as round
+
+-- the numbers of a clock time are that clock time again
+pub time-numbers : (t : ClockTime) → Holds t → timeOf (timeNumbers t) ≡ accepted t
+time-numbers = back.time-back
+
+-- "Written back, an accepted reading gives the same bytes" (demand 2): the numbers that `radio_clock_read` leaves,
+-- handed to `radio_clock_write`
+pub write-read : (n : ℕ) (s : List ℕ) (r : Reading) → readNumbered n s ≡ accepted r
+    → (d : List ℕ) → length s ≤ length d
+    → writeFrom n (readingNumbers r) d ≡ record { answer = accepted (length s); memory = s ++ drop (length s) d }
+write-read = round.write-read
+
+-- "or marks" (demand 2)
+pub write-read-minute : (m : List ℕ) (a : MinuteTime) → readMinute m ≡ accepted a
+    → (d : List ℕ) → length m ≤ length d
+    → writeMinuteFrom (minuteNumbers a) d ≡ record { answer = accepted (length m); memory = m ++ drop (length m) d }
+write-read-minute = round.write-read-minute
+
+-- every string that is read has an instant
+pub unix-time-read : (n : ℕ) (s : List ℕ) (r : Reading) → readNumbered n s ≡ accepted r
+    → unixTimeOf (readingNumbers r) ≡ accepted (instantOf (clockOf r))
+unix-time-read = round.unix-time-read
+
+-- 68 zero bytes are the state before the first byte
+pub zero-state : framerIn (replicate 68 0) ≡ start
+zero-state = round.zero-state
+
+-- the bytes of a state are that state again
+pub state-bytes : (f : Framer) (rest : List ℕ) → length (f .bytes) ≡ 66 → framerIn (stateBytes f ++ rest) ≡ f
+state-bytes = back.state-back
+
+-- "The feed's state goes in and is handed back" (01, The serial feed): what a call leaves stands for the state after
+-- the bytes taken, which are those of the feed, so that calls in a row are feeds in a row
+pub feed-goes-on : (state : List ℕ) (taken event : ℕ) (s : List ℕ) (limit : ℕ) → 68 ≤ length state
+    → let after = feedInto (feedMemory state taken event) s limit .memory in
+    (framerIn (after .state) ≡ feedOf (framerIn state) (take limit s) .framer)
+    × (after .taken ≡ feedOf (framerIn state) (take limit s) .taken)
+feed-goes-on = round.feed-goes-on

@@ -11,6 +11,7 @@ use Rattle.clock_time.specs.Errors.{Answer, accepted, refused, given, checked}
 use Rattle.clock_time.proofs.ErrorLaws.{accepted-passes}
 use Rattle.clock_time.proofs.Tests.{below-at}
 use Rattle.calendar.specs.Date.{dateExists, fullYear, knownDate, daysSinceEpoch, weekdayOf, weekdayNumber}
+use Rattle.calendar.proofs.DateLaws.{known-exists}
 use Rattle.layout.specs.Ascii.{ascii}
 use Rattle.layout.specs.Accepts.{Accepts}
 use Rattle.layout.specs.Layout.{FitsLayout, number}
@@ -25,11 +26,6 @@ pub weekdayOf-known : (year month day : ℕ) → knownDate year month day ≡ tr
     → weekdayOf year month day ≡ accepted (weekdayNumber year month day)
 unfolding weekdayOf weekdayNumber
 weekdayOf-known year month day h = rw h
-
--- every two digits are a year that the calendar knows
-pub known-exists : (n month day : ℕ) → knownDate (fullYear n) month day ≡ dateExists (fullYear n) month day
-unfolding knownDate fullYear
-known-exists n month day = simp (le-leb 1970 (fullYear n) (omega arith), le-leb (fullYear n) 2069 (omega arith))
 
 pub weekday-answered : (s : List ℕ) (w : ℕ) → accepted w ≡ weekdayAnswer s → w ≡ elvWeekday s
 unfolding weekdayAnswer weekdayOf elvWeekday weekdayNumber

@@ -6,5 +6,4 @@ pub mod PartsLaws
 pub mod FramedLaws
 pub mod AlikeLaws
 pub mod FoundLaws
-pub mod Examples
 pub mod Theorems

@@ -6,5 +6,4 @@ pub mod ToldLaws
 pub mod WrittenLaws
 pub mod LastLineLaws
 pub mod CallsLaws
-pub mod Examples
 pub mod Theorems

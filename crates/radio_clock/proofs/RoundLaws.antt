@@ -84,7 +84,7 @@ module _ (t : ClockTime) (h : isValid t ≡ true) where
 height-small : (s : List ℕ) (g : GpsTime) → readGps s ≡ accepted g → g .position .height ≤ 65535
 unfolding gps gpsFields positionOf positionFault
 height-small s g h =
-    let r = gps-string.accepted-exactly s g .0 h in
+    let r = gps-string.faithful .accepted-exactly s g .0 h in
     let w = both (positionDigits s && inRange latitude s) (inRange longitude s) (not-false _ (r .0 .position)) in
     let digits = both (positionDigits s) (inRange latitude s) (w .0) .0 in
     let small = value-small (run 60 4 s) (position-digits s digits .height-plain) in
@@ -93,7 +93,7 @@ height-small s g h =
 marks-small : (m : List ℕ) (a : MinuteTime) → readMinute m ≡ accepted a → a .detail .marks ≤ 65535
 unfolding minuteFields
 marks-small m a h =
-    let r = minute.accepted-exactly m a .0 h in
+    let r = minute.faithful .accepted-exactly m a .0 h in
     let small = binary-below m (small-sure m (r .0 .sure)) 14 1 in
     rw (r .1) (omega arith)
 
@@ -105,20 +105,20 @@ module _ (s : List ℕ) (r : Reading) where
   write-kind Standard h d room =
       let w = plain-time _ r h in
       rw (w .2) (handed-on (w .0) (standard-valid s (w .0) (w .1)) writeStandard d
-      ∙ standard-string.write-read s (w .0) (w .1) d room)
+      ∙ standard-string.faithful .written-back s (w .0) (w .1) d room)
   write-kind Pzf h d room =
       let w = plain-time _ r h in
       rw (w .2) (handed-on (w .0) (pzf-valid s (w .0) (w .1)) writePzf d
-      ∙ pzf-string.write-read s (w .0) (w .1) d room)
+      ∙ pzf-string.faithful .written-back s (w .0) (w .1) d room)
   write-kind Gps h d room =
       let w = located-time _ r h in
       let g = w .0 in
       let holds = valid-holds (g .time) (gps-valid s g (w .1)) in
-      rw (w .2, gps-back g holds (height-small s g (w .1))) (gps-string.write-read s g (w .1) d room)
+      rw (w .2, gps-back g holds (height-small s g (w .1))) (gps-string.faithful .written-back s g (w .1) d room)
   write-kind Elv h d room =
       let w = plain-time _ r h in
       rw (w .2) (handed-on (w .0) (elv-valid s (w .0) (w .1)) writeElv d
-      ∙ elv-string.write-read s (w .0) (w .1) d room)
+      ∙ elv-string.faithful .written-back s (w .0) (w .1) d room)
 
   valid-kind : (k : Kind) → readAs k s ≡ accepted r
       → (isValid (clockOf r) ≡ true) × (take 14 (readingNumbers r) ≡ timeNumbers (clockOf r))
@@ -149,7 +149,7 @@ pub write-read-minute : (m : List ℕ) (a : MinuteTime) → readMinute m ≡ acc
 unfolding writeMinuteFrom
 write-read-minute m a h d room =
     rw (minute-back a (valid-holds (a .time) (minute-valid m a h)) (marks-small m a h))
-    (minute.write-read m a h d room)
+    (minute.faithful .written-back m a h d room)
 
 -- ---- the feed
 pub zero-state : framerIn (replicate 68 0) ≡ start

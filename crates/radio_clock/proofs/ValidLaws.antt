@@ -107,21 +107,21 @@ zone-in-range false false = refl
 pub standard-valid : (s : List ℕ) (t : ClockTime) → readStandard s ≡ accepted t → isValid t ≡ true
 unfolding standard standardFields standardZone
 standard-valid s t h =
-    let r = standard-string.accepted-exactly s t .0 h in
+    let r = standard-string.faithful .accepted-exactly s t .0 h in
     let zone = zone-in-range (eqb (getD s 29 0) (code "U")) (eqb (getD s 29 0) (code "S")) in
     rw (r .1) (accepts-valid standard s (r .0) (number 2 9 s) refl zone)
 
 pub pzf-valid : (s : List ℕ) (t : ClockTime) → readPzf s ≡ accepted t → isValid t ≡ true
 unfolding pzf pzfFields pzfOffset
 pzf-valid s t h =
-    let r = pzf-string.accepted-exactly s t .0 h in
+    let r = pzf-string.faithful .accepted-exactly s t .0 h in
     let zone = zone-in-range (has "U" 24 s) (has "S" 27 s) in
     rw (r .1) (accepts-valid pzf s (r .0) (number 2 7 s) refl zone)
 
 pub elv-valid : (s : List ℕ) (t : ClockTime) → readElv s ≡ accepted t → isValid t ≡ true
 unfolding elv elvFields elvOffset
 elv-valid s t h =
-    let r = elv-string.accepted-exactly s t .0 h in
+    let r = elv-string.faithful .accepted-exactly s t .0 h in
     let zone = zone-in-range false (summerIn (elvFlags s)) in
     rw (r .1) (accepts-valid elv s (r .0) (number 2 0 s) refl zone)
 
@@ -135,13 +135,13 @@ gps-in-range s h =
 pub gps-valid : (s : List ℕ) (g : GpsTime) → readGps s ≡ accepted g → isValid (g .time) ≡ true
 unfolding gps gpsFields clockOf
 gps-valid s g h =
-    let r = gps-string.accepted-exactly s g .0 h in
+    let r = gps-string.faithful .accepted-exactly s g .0 h in
     rw (r .1) (accepts-valid gps s (r .0) (number 2 7 s) refl (gps-in-range s (r .0 .offset)))
 
 pub minute-valid : (m : List ℕ) (a : MinuteTime) → readMinute m ≡ accepted a → isValid (a .time) ≡ true
 unfolding minuteFields announced
 minute-valid m a h =
-    let r = minute.accepted-exactly m a .0 h in
+    let r = minute.faithful .accepted-exactly m a .0 h in
     let b = r .0 in
     let zone = zone-in-range false (long 17 m) in
     rw (r .1) (valid (announced m) (twoDigits 50 4 m) refl (b .date) (b .time) (b .monday) (b .sunday) zone)

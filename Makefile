@@ -34,7 +34,7 @@ outside: c-test $(LIST_TIMES)
 # rt proves the crates below, then the library or the program.
 library: $(LIBRARY)
 target/staticlib/libradio_clock.a: $(CRATES)
-	rt staticlib radio_clock
+	@rt staticlib radio_clock >&2
 target/bin/list_times: $(CRATES)
 	@rt check list_times >&2
 
@@ -61,7 +61,7 @@ c-selftest: $(C)/selftest
 
 $(C)/bench: tests/c/bench.c tests/c/inputs.c tests/c/reference.c $(HEADERS) $(LIBRARY)
 	@mkdir -p $(C)
-	$(PLAIN) tests/c/bench.c tests/c/inputs.c tests/c/reference.c $(LIBRARY) -o $@
+	@$(PLAIN) tests/c/bench.c tests/c/inputs.c tests/c/reference.c $(LIBRARY) -o $@
 
 bench: $(C)/bench $(LIST_TIMES)
 	@CC="$(CC)" tests/c/bench.sh $(C)/bench $(LIST_TIMES)

@@ -29,8 +29,11 @@ fn decimals(n: u32) -> [u8; 4]
     ]
 }
 
+// A sign, two digits, a colon, two digits.
+pub type OffsetText = [u8; 6];
+
 // The bytes of a UTC offset, from its sign on.
-pub fn offset_text(offset: i16) -> [u8; 6]
+pub fn offset_text(offset: i16) -> OffsetText
     ensures { λ r. ⌜ r ≡ offsetText offset ⌝ }
 {
     let size = signed::size(offset as i32);

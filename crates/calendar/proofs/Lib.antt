@@ -1,3 +1,4 @@
 -- Laws of the definitions.
 pub mod DateLaws
 pub mod SignedLaws
+pub mod ValidLaws

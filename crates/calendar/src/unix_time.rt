@@ -22,7 +22,8 @@ pub(crate) fn offset_in_range(offset: i16) -> bool
     (-840 <= offset) & (offset <= 840)
 }
 
-fn is_valid(t: ClockTime) -> bool
+// True where the fields of a clock time are those of a reading; the flags play no part.
+pub fn is_valid(t: ClockTime) -> bool
     ensures { λ r. ⌜ r ≡ isValid t ⌝ }
 {
     let date = date::is_known_date(t.year, t.month, t.day);

@@ -18,7 +18,7 @@ use Rattle.clock_time.specs.declared.ClockTime.{ClockTime}
 use Rattle.clock_time.specs.declared.Position.{Position}
 use Rattle.clock_time.proofs.Tests.{both}
 
-eqb-refl : (n : ℕ) → eqb n n ≡ true
+pub eqb-refl : (n : ℕ) → eqb n n ≡ true
 eqb-refl n = eq-eqb n n refl
 
 pub beq-refl : (a : Bool) → Bool·beq a a ≡ true
@@ -31,12 +31,12 @@ beq-true true false h = absurd (false≢true h)
 beq-true false true h = absurd (false≢true h)
 beq-true false false h = refl
 
-eqℤ-refl : (z : ℤ) → eqℤ z z ≡ true
+pub eqℤ-refl : (z : ℤ) → eqℤ z z ≡ true
 unfolding eqℤ
 eqℤ-refl (pos n) = eqb-refl n
 eqℤ-refl (negsuc n) = eqb-refl n
 
-eqℤ-true : (a b : ℤ) → eqℤ a b ≡ true → a ≡ b
+pub eqℤ-true : (a b : ℤ) → eqℤ a b ≡ true → a ≡ b
 unfolding eqℤ
 eqℤ-true (pos m) (pos n) h = ap pos (eqb-true m n h)
 eqℤ-true (pos m) (negsuc n) h = absurd (false≢true h)

@@ -102,7 +102,8 @@ pub fn error_number(e: Error) -> u8
     }
 }
 
-fn same_i16(a: i16, b: i16) -> bool
+// True where two offsets are the same.
+pub fn same_offset(a: i16, b: i16) -> bool
     ensures { λ r. ⌜ r ≡ eqℤ a b ⌝ }
 {
     a == b
@@ -137,7 +138,7 @@ pub fn same_time(a: ClockTime, b: ClockTime) -> bool
     ensures { λ r. ⌜ r ≡ sameTime a b ⌝ }
 {
     let fields = same_fields(a, b);
-    let offset = same_i16(a.utc_offset, b.utc_offset);
+    let offset = same_offset(a.utc_offset, b.utc_offset);
     fields & offset
 }
 

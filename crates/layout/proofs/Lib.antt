@@ -7,4 +7,5 @@ pub mod PairLaws
 pub mod TextLaws
 pub mod AcceptLaws
 pub mod WriteLaws
+pub mod DecideLaws
 pub mod Theorems

@@ -1,17 +1,31 @@
--- A standard string that fits its layout is the text of its fields. Assumes nothing.
+-- A standard string that fits its layout is the text of its fields, and the writer may decide from the clock time.
+-- Assumes nothing.
 use Prim.Native.Nat.{ℕ}
 use Prim.Native.Char.{code}
-use mathlib.Core.Path.{_≡_, refl}
-use mathlib.Core.Bool.{true, _||_}
+use native.Mathlib.Omega.{arith}
+use mathlib.Core.Path.{_≡_, refl, sym, _∙_}
+use mathlib.Core.Bool.{Bool, true, false, cond, not, _&&_, _||_, false≢true}
 use mathlib.Core.List.{List}
 use lib.Dec.{eqb, lit<, lit≤}
 use lib.ListN.{getD}
-use Rattle.clock_time.specs.Same.{eqℤ}
+use lib.IntN.{ℤ, pos}
+use borrow.Author.Tests.{eqb-true, not-true}
+use Rattle.clock_time.specs.Same.{eqℤ, sameFields, sameTime}
+use Rattle.clock_time.specs.Writing.{writing}
+use Rattle.clock_time.specs.declared.ClockTime.{ClockTime}
+use Rattle.clock_time.proofs.SameLaws.{eqℤ-refl, eqℤ-true, eqb-refl, beq-refl, sameTime-refl, sameTime-true}
+use Rattle.clock_time.proofs.Tests.{both}
+use Rattle.calendar.specs.UnixTime.{isValid}
+use Rattle.decimal.specs.Decimal.{digits}
 use Rattle.layout.specs.Ascii.{ascii}
-use Rattle.layout.specs.Layout.{allowed, FitsLayout}
+use Rattle.layout.specs.Layout.{allowed, fitsFrom, FitsLayout, number}
+use Rattle.layout.proofs.LayoutLaws.{tested-fits}
+use Rattle.layout.proofs.DecideLaws.{digit-fits, letter-fits, letter-read, Written, written, Decides, zone-in-range}
+use Rattle.layout.proofs.DecideLaws as text
 use Rattle.layout.proofs.WriteLaws.{restore-fits, digits-number, digits-year, letter-back, either-all}
 use Rattle.meinberg_standard.specs.Standard.{standardLayout, standardZone, standardFields}
-use Rattle.meinberg_standard.specs.Standard.{zoneLetter, announcedLetter, standardText}
+use Rattle.meinberg_standard.specs.Standard.{zoneLetter, announcedLetter, standardText, standardCarries}
+use Rattle.meinberg_standard.specs.Standard.{standard, writeStandard}
 
 zone-back : (b : ℕ) → (eqb b 32 || eqb b (code "U") || eqb b (code "S")) ≡ true
     → zoneLetter (standardZone b) (eqb b (code "S")) ≡ b
@@ -43,3 +57,136 @@ standard-back s h =
       announced-back (getD s 30 0) (at 30 (lit< tt)),
     )
     (restore-fits h)
+
+-- ---- deciding from the clock time
+zone-fits : (z : ℤ) (summer : Bool) → let x = zoneLetter z summer in
+    (eqb x 32 || eqb x (code "U") || eqb x (code "S")) ≡ true
+unfolding zoneLetter
+zone-fits z true = refl
+zone-fits z false = go (eqℤ z (pos 0))
+  where
+    go : (b : Bool) → let x = cond {A = ℕ} b (code "U") 32 in
+        (eqb x 32 || eqb x (code "U") || eqb x (code "S")) ≡ true
+    go true = refl
+    go false = refl
+
+announced-fits : (change leap : Bool) → let x = announcedLetter change leap in
+    (eqb x 32 || eqb x (code "!") || eqb x (code "A")) ≡ true
+unfolding announcedLetter
+announced-fits true leap = refl
+announced-fits false true = refl
+announced-fits false false = refl
+
+text-fits : (t : ClockTime) → FitsLayout standardLayout (standardText t)
+unfolding standardLayout standardText ascii digits fitsFrom allowed
+text-fits t =
+    tested-fits standardLayout (standardText t) refl
+    (simp (
+      digit-fits,
+      letter-fits (t .unsynchronised) "#",
+      letter-fits (t .unverified) "*",
+      zone-fits (t .«utc_offset») (t .«summer_time»),
+      announced-fits (t .«dst_change_announced») (t .«leap_second_announced»),
+    ))
+
+-- what is read is carried
+zone-carried : (x : ℕ) → eqℤ (standardZone (zoneLetter (standardZone x) (eqb x (code "S")))) (standardZone x) ≡ true
+unfolding standardZone zoneLetter eqℤ
+zone-carried x = go (eqb x (code "U")) (eqb x (code "S")) refl refl
+  where
+    go : (u v : Bool) → eqb x (code "U") ≡ u → eqb x (code "S") ≡ v
+        → eqℤ (standardZone (zoneLetter (cond u (pos 0) (cond v (pos 120) (pos 60))) v))
+        (cond u (pos 0) (cond v (pos 120) (pos 60))) ≡ true
+    go true true e f =
+        let z : _≡_ {A = ℕ} 85 83 = sym (eqb-true x 85 e) ∙ eqb-true x 83 f in
+        absurd (omega arith)
+    go true false e f = refl
+    go false true e f = refl
+    go false false e f = refl
+
+not-both : (x : ℕ) → not (eqb x (code "!") && eqb x (code "A")) ≡ true
+not-both x = go (eqb x (code "!")) (eqb x (code "A")) refl refl
+  where
+    go : (u v : Bool) → eqb x (code "!") ≡ u → eqb x (code "A") ≡ v → not (u && v) ≡ true
+    go true true e f =
+        let z : _≡_ {A = ℕ} 33 65 = sym (eqb-true x 33 e) ∙ eqb-true x 65 f in
+        absurd (omega arith)
+    go true false e f = refl
+    go false v e f = refl
+
+fields-carried : (s : List ℕ) → standardCarries (standardFields s) ≡ true
+unfolding standardCarries standardFields
+fields-carried s = simp (zone-carried (getD s 29 0), not-both (getD s 30 0))
+
+-- the letters are read as they were written
+summer-read : (z : ℤ) (summer : Bool) → eqb (zoneLetter z summer) (code "S") ≡ summer
+unfolding zoneLetter
+summer-read z true = refl
+summer-read z false = go (eqℤ z (pos 0))
+  where
+    go : (b : Bool) → eqb (cond {A = ℕ} b (code "U") 32) (code "S") ≡ false
+    go true = refl
+    go false = refl
+
+change-read : (change leap : Bool) → eqb (announcedLetter change leap) (code "!") ≡ change
+unfolding announcedLetter
+change-read true leap = refl
+change-read false true = refl
+change-read false false = refl
+
+leap-read : (change leap : Bool) → not (change && leap) ≡ true → eqb (announcedLetter change leap) (code "A") ≡ leap
+unfolding announcedLetter
+leap-read true true h = absurd (false≢true h)
+leap-read true false h = refl
+leap-read false true h = refl
+leap-read false false h = refl
+
+text-says : (t : ClockTime) → isValid t ≡ true → standardCarries t ≡ true → standardFields (standardText t) ≡ t
+unfolding standardCarries standardFields standardText ascii digits sameTime sameFields
+text-says t h k =
+    let w = written t h in
+    let zone = eqℤ (standardZone (zoneLetter (t .«utc_offset») (t .«summer_time»))) (t .«utc_offset») in
+    let alone = not (t .«dst_change_announced» && t .«leap_second_announced») in
+    let v = both (zone && alone) (not (t .«alternate_antenna»)) k in
+    let u = both zone alone (v .0) in
+    sameTime-true _ t
+    (simp (
+      w .year,
+      w .month,
+      w .day,
+      w .weekday,
+      w .hour,
+      w .minute,
+      w .second,
+      eqℤ-true _ _ (u .0),
+      letter-read "#" refl (t .unsynchronised),
+      letter-read "*" refl (t .unverified),
+      summer-read (t .«utc_offset») (t .«summer_time»),
+      change-read (t .«dst_change_announced») (t .«leap_second_announced»),
+      leap-read (t .«dst_change_announced») (t .«leap_second_announced») (u .1),
+      not-true (t .«alternate_antenna») (v .1),
+      eqb-refl,
+      beq-refl,
+      eqℤ-refl,
+    ))
+
+decides : Decides standard standardCarries
+unfolding standard standardFields standardZone
+decides =
+    record {
+      year = λ s. (number 2 9 s, refl);
+      offset = λ s r. zone-in-range (eqb (getD s 29 0) (code "U")) (eqb (getD s 29 0) (code "S"));
+      carried = λ s r. fields-carried s;
+      fits = λ t h k. text-fits t;
+      flags = λ t h k. refl;
+      offsets = λ t h k. refl;
+      position = λ t h k. refl;
+      agrees = λ t h k. refl;
+      says = text-says;
+    }
+
+-- the writer's code does as its definition says
+pub writes : (t : ClockTime) {u v : Bool} {bytes : List ℕ} → u ≡ isValid t → v ≡ standardCarries t
+    → bytes ≡ standardText t → (buffer : List ℕ) → writing (u && v) bytes buffer ≡ writeStandard t buffer
+unfolding writeStandard standard
+writes t h k e buffer = text.writes standard standardCarries decides sameTime-refl sameTime-true t h k e buffer

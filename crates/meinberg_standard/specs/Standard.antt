@@ -1,7 +1,7 @@
 -- The Meinberg standard string, 32 bytes. Assumes nothing.
 use Prim.Native.Nat.{ℕ}
 use Prim.Native.Char.{code}
-use mathlib.Core.Bool.{Bool, false, cond}
+use mathlib.Core.Bool.{Bool, false, cond, not, _&&_}
 use mathlib.Core.List.{List, _∷_, _++_}
 use lib.Dec.{eqb}
 use lib.ListN.{getD}
@@ -70,6 +70,13 @@ standardText t =
     lineOf t (letter (t .unsynchronised) "#") (letter (t .unverified) "*")
     (zoneLetter (t .«utc_offset») (t .«summer_time»))
     (announcedLetter (t .«dst_change_announced») (t .«leap_second_announced»))
+
+-- the clock times that these letters can say, the rest of a reading being as it is
+unfoldable pub standardCarries : ClockTime → Bool
+standardCarries t =
+    eqℤ (standardZone (zoneLetter (t .«utc_offset») (t .«summer_time»))) (t .«utc_offset»)
+    && not (t .«dst_change_announced» && t .«leap_second_announced»)
+    && not (t .«alternate_antenna»)
 
 -- it has no faults of its own beyond its layout's and its clock time's
 unfoldable pub standard : Format ClockTime

@@ -12,7 +12,7 @@ ghost use Rattle.layout.specs.Layout.{FitsLayout, fitsFrom, layoutError};
 ghost use Rattle.layout.specs.Text.{readAnswer};
 ghost use Rattle.meinberg_standard.specs.Standard.{standardLayout, standardZone, standardFields, readStandard};
 ghost use Rattle.meinberg_standard.specs.Standard.{zoneLetter, announcedLetter, lineOf, standardText};
-ghost use Rattle.meinberg_standard.specs.Standard.{writeStandard};
+ghost use Rattle.meinberg_standard.specs.Standard.{standardCarries, writeStandard};
 ghost use Rattle.clock_time.specs.Writing.{outcome};
 
 // The layout, as the definition `standardLayout` has it.
@@ -209,12 +209,22 @@ fn line_of(t: ClockTime) -> [u8; 32]
     line_with(t, u, v, x, y)
 }
 
+// Whether the letters of a standard string can say what `t` says.
+fn is_carried(t: ClockTime) -> bool
+    ensures { λ r. ⌜ r ≡ standardCarries t ⌝ }
+{
+    let zone = zone_offset(zone_letter(t.utc_offset, t.summer_time));
+    clock_time::same_offset(zone, t.utc_offset)
+        & !(t.dst_change_announced & t.leap_second_announced)
+        & !t.alternate_antenna
+}
+
 // Writes a clock time as a Meinberg standard string to the front of `out`: 23 where no such string is read as it, 20
 // where there is no room for 32 bytes.
 pub fn write_standard(t: ClockTime, out: &mut [u8]) -> WriteAnswer
     ensures { λ r. ⌜ outcome r (now (out .exit)) ≡ writeStandard t (now (out .entry)) ⌝ }
 {
     let line = line_of(t);
-    let readable = layout::is_read_as(read_standard(&line), t);
+    let readable = calendar::unix_time::is_valid(t) & is_carried(t);
     clock_time::write_bytes(readable, &line, out)
 }

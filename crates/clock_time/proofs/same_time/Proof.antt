@@ -19,7 +19,7 @@ unfolding sameTime
 returns c =
     let fields = c .before .before .before in
     let offset = rw (toZ-ofZ (first-fits (fields .before)), toZ-ofZ (second-fits (fields .before))) at
-    (c .same-i16 .ensures) in
+    (c .same-offset .ensures) in
     simp (fields .same-fields .ensures, offset)
 
 pub same-time-spec : {M : Type 1} → statement M

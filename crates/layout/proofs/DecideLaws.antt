@@ -1,0 +1,145 @@
+-- A format's writer may decide from the value: it is written exactly if it is a valid reading that the format carries.
+-- Assumes nothing.
+use Prim.Native.Nat.{ℕ, _+_, _/_, _%_, _≤_, _<_}
+use Prim.Native.Char.{Char, code}
+use native.Mathlib.Nat.{mod-eq-of-lt}
+use native.Mathlib.Omega.{arith}
+use mathlib.Core.Path.{_≡_, refl, sym, _∙_}
+use mathlib.Core.Bool.{Bool, true, false, cond, _&&_, _||_}
+use mathlib.Core.List.{List}
+use lib.Dec.{eqb, leb}
+use lib.IntN.{pos}
+use borrow.Author.Tests.{eq-eqb, ne-eqb, le-leb}
+use Rattle.clock_time.specs.Errors.{accepted}
+use Rattle.clock_time.specs.Writing.{writing, writeBack}
+use Rattle.clock_time.specs.declared.ClockTime.{ClockTime}
+use Rattle.clock_time.proofs.BackLaws.{decided}
+use Rattle.clock_time.proofs.Tests.{both}
+use Rattle.calendar.specs.Date.{fullYear}
+use Rattle.calendar.specs.UnixTime.{offsetInRange, isValid}
+use Rattle.calendar.proofs.DateLaws.{known-exists}
+use Rattle.calendar.proofs.ValidLaws.{Valid, valid, checked-valid, year-back}
+use Rattle.decimal.specs.Decimal.{isDigit, digits, value}
+use Rattle.decimal.proofs.DecimalLaws.{value-digits}
+use Rattle.layout.specs.Layout.{FitsLayout}
+use Rattle.layout.specs.Text.{Format, readText, writeText, letter}
+use Rattle.layout.specs.Accepts.{Accepts}
+use Rattle.layout.proofs.AcceptLaws.{read-accepts, accepts-read}
+
+-- ---- what a text has at its places
+pub digit-fits : (n : ℕ) → isDigit (48 + n % 10) ≡ true
+unfolding isDigit
+digit-fits n = rw (le-leb 48 (48 + n % 10) (omega arith), le-leb (48 + n % 10) 57 (omega arith))
+
+-- a flag's letter may stand at its place, and is read as it was written
+pub letter-fits : (on : Bool) (c : Char) → (eqb (letter on c) 32 || eqb (letter on c) (code c)) ≡ true
+letter-fits true c = rw (eq-eqb (code c) (code c) refl) (or-true (eqb (code c) 32))
+  where
+    or-true : (b : Bool) → (b || true) ≡ true
+    or-true true = refl
+    or-true false = refl
+letter-fits false c = refl
+
+pub letter-read : (c : Char) → eqb 32 (code c) ≡ false → (on : Bool) → eqb (letter on c) (code c) ≡ on
+letter-read c h true = eq-eqb (code c) (code c) refl
+letter-read c h false = h
+
+-- ---- the numbers of a valid reading are read as they were written
+pub record Written (t : ClockTime) : Type 0 where
+  pub year : fullYear (value (digits 2 (t .year))) ≡ t .year
+  pub month : value (digits 2 (t .month)) ≡ t .month
+  pub day : value (digits 2 (t .day)) ≡ t .day
+  pub weekday : value (digits 1 (t .weekday)) ≡ t .weekday
+  pub hour : value (digits 2 (t .hour)) ≡ t .hour
+  pub minute : value (digits 2 (t .minute)) ≡ t .minute
+  pub second : value (digits 2 (t .second)) ≡ t .second
+
+year-digits : (y : ℕ) → digits 2 y ≡ digits 2 (y % 100)
+unfolding digits
+year-digits y =
+    let tens : y % 100 / 10 % 10 ≡ y / 10 % 10 = omega arith in
+    let ones : y % 100 % 10 ≡ y % 10 = omega arith in
+    rw (tens, ones)
+
+pub written : (t : ClockTime) → isValid t ≡ true → Written t
+written t h =
+    let v = valid t h in
+    let d = v .date in
+    let small : t .year % 100 < 100 = omega arith in
+    record {
+      year = rw (year-digits (t .year), value-digits 2 (t .year % 100) small) (year-back (t .year) (d .first) (d .last));
+      month = value-digits 2 (t .month) (omega (arith, d .month));
+      day = value-digits 2 (t .day) (omega (arith, d .small));
+      weekday = value-digits 1 (t .weekday) (omega (arith, v .sunday));
+      hour = value-digits 2 (t .hour) (omega (arith, v .hour));
+      minute = value-digits 2 (t .minute) (omega (arith, v .minute));
+      second = value-digits 2 (t .second) (omega (arith, v .second));
+    }
+
+-- the offsets of receivers that know UTC, CET and CEST
+pub zone-in-range : (utc summer : Bool) → offsetInRange (cond utc (pos 0) (cond summer (pos 120) (pos 60))) ≡ true
+unfolding offsetInRange
+zone-in-range true summer = refl
+zone-in-range false true = refl
+zone-in-range false false = refl
+
+-- ---- deciding
+-- What a writer needs to know of its format to decide from a value: which of them it carries.
+pub record Decides {A : Type 0} (f : Format A) (carries : A → Bool) : Type 0 where
+  -- what is read is carried, has a year of two digits and an offset in range
+  pub year : (s : List ℕ) → (n : ℕ) × (f .clock (f .fields s) .year ≡ fullYear n)
+  pub offset : (s : List ℕ) → Accepts f s → offsetInRange (f .clock (f .fields s) .«utc_offset») ≡ true
+  pub carried : (s : List ℕ) → Accepts f s → carries (f .fields s) ≡ true
+  -- the text of a valid reading that is carried fits its layout, has no further faults, and says the same
+  pub fits : (a : A) → isValid (f .clock a) ≡ true → carries a ≡ true → FitsLayout (f .layout) (f .text a)
+  pub flags : (a : A) → isValid (f .clock a) ≡ true → carries a ≡ true → f .flagFault (f .text a) ≡ false
+  pub offsets : (a : A) → isValid (f .clock a) ≡ true → carries a ≡ true → f .offsetFault (f .text a) ≡ false
+  pub position : (a : A) → isValid (f .clock a) ≡ true → carries a ≡ true → f .positionFault (f .text a) ≡ false
+  pub agrees : (a : A) → isValid (f .clock a) ≡ true → carries a ≡ true → f .mismatch (f .text a) ≡ false
+  pub says : (a : A) → isValid (f .clock a) ≡ true → carries a ≡ true → f .fields (f .text a) ≡ a
+
+module _ {A : Type 0} (f : Format A) (carries : A → Bool) (d : Decides f carries) where
+  pub read-valid : (s : List ℕ) → Accepts f s → isValid (f .clock (f .fields s)) ≡ true
+  read-valid s r =
+      let y = d .year s in
+      checked-valid (f .clock (f .fields s)) (y .0) (y .1) (r .date) (r .time) (r .monday) (r .sunday) (d .offset s r)
+
+  text-accepted : (a : A) → isValid (f .clock a) ≡ true → carries a ≡ true → Accepts f (f .text a)
+  text-accepted a h k =
+      let v = valid (f .clock a) h in
+      let same = d .says a h k in
+      record {
+        fits = d .fits a h k;
+        flags = d .flags a h k;
+        offset = d .offsets a h k;
+        position = d .position a h k;
+        date = rw same (v .exists);
+        time = rw same (v .time);
+        agrees = d .agrees a h k;
+        monday = rw same (v .monday);
+        sunday = rw same (v .sunday);
+      }
+
+  passes : (s : List ℕ) (a : A) → readText f s ≡ accepted a → (isValid (f .clock a) && carries a) ≡ true
+  passes s a e =
+      let r = read-accepts f s a e in
+      rw (r .1) (rw (read-valid s (r .0)) (d .carried s (r .0)))
+
+  reads : (a : A) → (isValid (f .clock a) && carries a) ≡ true → readText f (f .text a) ≡ accepted a
+  reads a e =
+      let w = both (isValid (f .clock a)) (carries a) e in
+      accepts-read f (f .text a) (text-accepted a (w .0) (w .1)) ∙ rw (d .says a (w .0) (w .1))
+
+  -- the writer's code: the two tests, and the bytes of the text
+  pub writes : ((a : A) → f .same a a ≡ true) → ((a b : A) → f .same a b ≡ true → a ≡ b)
+      → (a : A) {t u : Bool} {bytes : List ℕ} → t ≡ isValid (f .clock a) → u ≡ carries a → bytes ≡ f .text a
+      → (buffer : List ℕ) → writing (t && u) bytes buffer ≡ writeText f a buffer
+  unfolding writeText writeBack
+  writes same-refl same-true a h k e buffer =
+      rw (
+        h,
+        k,
+        e,
+        decided (readText f) (f .text) (f .same) same-refl same-true
+            (λ b. isValid (f .clock b) && carries b) passes reads a,
+      )

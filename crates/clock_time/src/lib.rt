@@ -103,10 +103,10 @@ pub fn error_number(e: Error) -> u8
 }
 
 // True where two offsets are the same.
-pub fn same_offset(a: i16, b: i16) -> bool
-    ensures { λ r. ⌜ r ≡ eqℤ a b ⌝ }
+pub fn same_offset(offset: i16, other: i16) -> bool
+    ensures { λ r. ⌜ r ≡ eqℤ offset other ⌝ }
 {
-    a == b
+    offset == other
 }
 
 fn same_i32(a: i32, b: i32) -> bool

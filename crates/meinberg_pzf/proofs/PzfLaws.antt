@@ -1,16 +1,25 @@
--- A PZF string that fits its layout is the text of its fields. Assumes nothing.
+-- A PZF string that fits its layout is the text of its fields, and the writer may decide from the clock time. Assumes
+-- nothing.
 use Prim.Native.Nat.{ℕ}
 use mathlib.Core.Path.{_≡_, refl}
-use mathlib.Core.Bool.{Bool, true, false}
+use mathlib.Core.Bool.{Bool, true, false, _&&_}
 use mathlib.Core.List.{List}
 use lib.Dec.{lit<, lit≤}
 use lib.ListN.{getD}
 use lib.IntN.{pos}
 use Rattle.clock_time.specs.Same.{eqℤ}
+use Rattle.clock_time.specs.Writing.{writing}
+use Rattle.clock_time.specs.declared.ClockTime.{ClockTime}
+use Rattle.clock_time.proofs.SameLaws.{eqℤ-refl, eqℤ-true, sameTime-refl, sameTime-true}
+use Rattle.calendar.specs.UnixTime.{isValid}
+use Rattle.decimal.specs.Decimal.{digits}
 use Rattle.layout.specs.Ascii.{ascii}
-use Rattle.layout.specs.Layout.{allowed, FitsLayout, has}
+use Rattle.layout.specs.Layout.{allowed, fitsFrom, FitsLayout, number, has}
+use Rattle.layout.proofs.LayoutLaws.{tested-fits}
+use Rattle.layout.proofs.DecideLaws.{digit-fits, letter-fits, letter-read, Written, written, Decides, zone-in-range}
+use Rattle.layout.proofs.DecideLaws as text
 use Rattle.layout.proofs.WriteLaws.{restore-fits, digits-number, digits-year, letter-back}
-use Rattle.meinberg_pzf.specs.Pzf.{pzfLayout, pzfOffset, pzfFields, pzfText}
+use Rattle.meinberg_pzf.specs.Pzf.{pzfLayout, pzfOffset, pzfFields, pzfText, pzfCarries, pzf, writePzf}
 
 -- the offset is 0 exactly if t says so, whatever x is
 offset-back : (utc summer : Bool) → eqℤ (pzfOffset utc summer) (pos 0) ≡ utc
@@ -42,3 +51,66 @@ pzf-back s h =
       letter-back "R" (getD s 30 0) (at 30 (lit< tt)),
     )
     (restore-fits h)
+
+-- ---- deciding from the clock time
+text-fits : (t : ClockTime) → FitsLayout pzfLayout (pzfText t)
+unfolding pzfLayout pzfText ascii digits fitsFrom allowed
+text-fits t =
+    tested-fits pzfLayout (pzfText t) refl
+    (simp (
+      digit-fits,
+      letter-fits (eqℤ (t .«utc_offset») (pos 0)) "U",
+      letter-fits (t .unsynchronised) "#",
+      letter-fits (t .unverified) "*",
+      letter-fits (t .«summer_time») "S",
+      letter-fits (t .«dst_change_announced») "!",
+      letter-fits (t .«leap_second_announced») "A",
+      letter-fits (t .«alternate_antenna») "R",
+    ))
+
+fields-carried : (s : List ℕ) → pzfCarries (pzfFields s) ≡ true
+unfolding pzfCarries pzfFields
+fields-carried s = simp (offset-back (has "U" 24 s) (has "S" 27 s), eqℤ-refl)
+
+text-says : (t : ClockTime) → isValid t ≡ true → pzfCarries t ≡ true → pzfFields (pzfText t) ≡ t
+unfolding pzfCarries pzfFields pzfText ascii digits
+text-says t h k =
+    let w = written t h in
+    simp (
+      w .year,
+      w .month,
+      w .day,
+      w .weekday,
+      w .hour,
+      w .minute,
+      w .second,
+      letter-read "U" refl (eqℤ (t .«utc_offset») (pos 0)),
+      letter-read "#" refl (t .unsynchronised),
+      letter-read "*" refl (t .unverified),
+      letter-read "S" refl (t .«summer_time»),
+      letter-read "!" refl (t .«dst_change_announced»),
+      letter-read "A" refl (t .«leap_second_announced»),
+      letter-read "R" refl (t .«alternate_antenna»),
+      eqℤ-true _ _ k,
+    )
+
+decides : Decides pzf pzfCarries
+unfolding pzf pzfFields pzfOffset
+decides =
+    record {
+      year = λ s. (number 2 7 s, refl);
+      offset = λ s r. zone-in-range (has "U" 24 s) (has "S" 27 s);
+      carried = λ s r. fields-carried s;
+      fits = λ t h k. text-fits t;
+      flags = λ t h k. refl;
+      offsets = λ t h k. refl;
+      position = λ t h k. refl;
+      agrees = λ t h k. refl;
+      says = text-says;
+    }
+
+-- the writer's code does as its definition says
+pub writes : (t : ClockTime) {u v : Bool} {bytes : List ℕ} → u ≡ isValid t → v ≡ pzfCarries t
+    → bytes ≡ pzfText t → (buffer : List ℕ) → writing (u && v) bytes buffer ≡ writePzf t buffer
+unfolding writePzf pzf
+writes t h k e buffer = text.writes pzf pzfCarries decides sameTime-refl sameTime-true t h k e buffer

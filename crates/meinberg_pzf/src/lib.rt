@@ -7,13 +7,12 @@ use layout::words;
 ghost use mathlib.Core.Path.{_≡_};
 ghost use mathlib.Core.Bool.{true};
 ghost use lib.ListN.{length};
-ghost use lib.IntN.{pos};
-ghost use Rattle.clock_time.specs.Same.{eqℤ};
 ghost use Rattle.clock_time.specs.Writing.{outcome};
 ghost use Rattle.clock_time.specs.Errors.{errorNumber};
 ghost use Rattle.layout.specs.Layout.{FitsLayout, fitsFrom, layoutError};
-ghost use Rattle.layout.specs.Text.{readAnswer, letter};
-ghost use Rattle.meinberg_pzf.specs.Pzf.{pzfLayout, pzfOffset, pzfFields, readPzf, lineOf, pzfText, writePzf};
+ghost use Rattle.layout.specs.Text.{readAnswer};
+ghost use Rattle.meinberg_pzf.specs.Pzf.{pzfLayout, pzfOffset, pzfFields, readPzf};
+ghost use Rattle.meinberg_pzf.specs.Pzf.{lineOf, pzfText, pzfCarries, writePzf};
 
 // The layout, as the definition `pzfLayout` has it.
 const D: u32 = 256;
@@ -144,12 +143,6 @@ pub fn read_pzf(s: &[u8]) -> ReadAnswer
     ReadAnswer::Refused(first_error(&s[..]))
 }
 
-fn utc_letter(offset: i16) -> u8
-    ensures { λ r. ⌜ r ≡ letter (eqℤ offset (pos 0)) "U" ⌝ }
-{
-    if offset == 0 { b'U' } else { b' ' }
-}
-
 // The layout with the fields of `t` and the seven flag letters in it.
 fn line_with(t: ClockTime, utc: u8, u: u8, v: u8, x: u8, y: u8, z: u8, a: u8) -> [u8; 32]
     ensures { λ r. ⌜ r ≡ lineOf t utc u v x y z a ⌝ }
@@ -193,7 +186,7 @@ fn line_with(t: ClockTime, utc: u8, u: u8, v: u8, x: u8, y: u8, z: u8, a: u8) ->
 fn line_of(t: ClockTime) -> [u8; 32]
     ensures { λ r. ⌜ r ≡ pzfText t ⌝ }
 {
-    let utc = utc_letter(t.utc_offset);
+    let utc = layout::letter_if(clock_time::same_offset(t.utc_offset, 0), b'U');
     let u = layout::letter_if(t.unsynchronised, b'#');
     let v = layout::letter_if(t.unverified, b'*');
     let x = layout::letter_if(t.summer_time, b'S');
@@ -203,12 +196,20 @@ fn line_of(t: ClockTime) -> [u8; 32]
     line_with(t, utc, u, v, x, y, z, a)
 }
 
+// Whether the flags of a PZF string can say the zone of `t`.
+fn is_carried(t: ClockTime) -> bool
+    ensures { λ r. ⌜ r ≡ pzfCarries t ⌝ }
+{
+    let utc = clock_time::same_offset(t.utc_offset, 0);
+    clock_time::same_offset(offset_of(utc, t.summer_time), t.utc_offset)
+}
+
 // Writes a clock time as a Meinberg PZF string to the front of `out`: 23 where no such string is read as it, 20 where
 // there is no room for 32 bytes.
 pub fn write_pzf(t: ClockTime, out: &mut [u8]) -> WriteAnswer
     ensures { λ r. ⌜ outcome r (now (out .exit)) ≡ writePzf t (now (out .entry)) ⌝ }
 {
     let line = line_of(t);
-    let readable = layout::is_read_as(read_pzf(&line), t);
+    let readable = calendar::unix_time::is_valid(t) & is_carried(t);
     clock_time::write_bytes(readable, &line, out)
 }

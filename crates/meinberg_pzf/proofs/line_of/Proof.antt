@@ -22,15 +22,17 @@ returns c =
     let v = x .before in
     let u = v .before in
     let t = u .before in
-    let utc = rw (toZ-ofZ (offset-fits (t .before .before))) at (t .utc-letter .ensures) in
+    let o = t .before in
+    let utc = rw (toZ-ofZ (offset-fits (o .before .before))) at (o .same-offset .ensures) in
     c .line-with .ensures
     ∙ simp (
-      a .letter-if6 .ensures,
-      z .letter-if5 .ensures,
-      y .letter-if4 .ensures,
-      x .letter-if3 .ensures,
-      v .letter-if2 .ensures,
-      u .letter-if .ensures,
+      a .letter-if7 .ensures,
+      z .letter-if6 .ensures,
+      y .letter-if5 .ensures,
+      x .letter-if4 .ensures,
+      v .letter-if3 .ensures,
+      u .letter-if2 .ensures,
+      t .letter-if .ensures,
       utc,
     )
 
@@ -38,6 +40,7 @@ pub line-of-spec : {M : Type 1} → statement M
 line-of-spec =
     tie.close
     (tie.spec
+    (λ c κs. search needs)
     (λ c κs. search needs)
     (λ c κs. search needs)
     (λ c κs. search needs)

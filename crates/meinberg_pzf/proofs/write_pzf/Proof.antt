@@ -1,25 +1,23 @@
 -- `meinberg_pzf::write_pzf` meets its contract. Assumes nothing.
 use borrow.Author.Needs.{needs}
-use Rattle.clock_time.specs.Writing.{readsBack, writeBack}
-use Rattle.layout.specs.Text.{writeText}
-use Rattle.meinberg_pzf.specs.Pzf.{readPzf, pzf, writePzf}
+use mathlib.Core.Path.{_∙_}
+use Rattle.meinberg_pzf.proofs.PzfLaws.{writes}
 use Rattle.meinberg_pzf.proofs.write_pzf.Statement.{statement}
 use Rattle.meinberg_pzf.proofs.write_pzf.Tie as tie
 
 returns : tie.Need-returns
-unfolding writePzf writeText writeBack readsBack readPzf pzf
 returns c =
     let w = c .before .before in
-    let r = w .before .before .before in
-    rw (← (r .before .before .before .line-of .ensures), ← (r .before .read-pzf .ensures), ← (r .is-read-as .ensures))
-    (w .write-bytes .ensures)
+    let carried = w .before .before .before in
+    let line = carried .before .before in
+    w .write-bytes .ensures
+    ∙ writes _ (carried .before .is-valid .ensures) (carried .is-carried .ensures) (line .line-of .ensures) _
 
 pub write-pzf-spec : {M : Type 1} → statement M
 write-pzf-spec =
     tie.close
     (tie.spec
     (λ c κs. search needs)
-    (λ c. search needs)
     (λ c κs. search needs)
     (λ c κs. search needs)
     (λ c. search needs)

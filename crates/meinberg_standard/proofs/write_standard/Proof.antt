@@ -1,6 +1,5 @@
 -- `meinberg_standard::write_standard` meets its contract. Assumes nothing.
 use borrow.Author.Needs.{needs}
-use Rattle.meinberg_standard.specs.Standard.{readStandard, standard, writeStandard}
 use mathlib.Core.Path.{_∙_}
 use Rattle.meinberg_standard.proofs.StandardLaws.{writes}
 use Rattle.meinberg_standard.proofs.write_standard.Statement.{statement}

@@ -1,93 +1,119 @@
--- Laws of dates: the tables of months and the count of leap days, each by one computed test, and what a known date is.
--- Assumes nothing.
-use Prim.Native.Nat.{ℕ, suc, _+_, _-_, _*_, _/_, _%_, _≤_, _<_}
+-- Laws of dates: the months and the count of leap days, each by one computed test, and what a known date is. Assumes
+-- nothing.
+use Prim.Native.Nat.{ℕ, zero, suc, _+_, _-_, _*_, _/_, _%_, _≤_, _<_}
 use native.Mathlib.Omega.{arith}
-use native.Mathlib.Decide.{decLt}
-use mathlib.Core.Path.{_≡_, refl, sym, ap, _∙_}
-use mathlib.Core.Bool.{Bool, true, false, _&&_, _||_}
-use mathlib.Core.List.{List, [], _∷_}
-use lib.Dec.{T, leb, ltb, eqb, eqb→eq, leb→le, lit≤}
-use lib.ListN.{length, getD, take, List·getD-eq-default}
+use native.Mathlib.Decide.{ℕ-discrete}
+use mathlib.Core.Path.{_≡_, refl}
+use mathlib.Core.Bool.{Bool, true, false, cond, not, _&&_, _||_, and-true, true≢false}
+use mathlib.Core.List.{[], _∷_}
+use lib.Dec.{T, leb, ltb, eqb, eqb→eq, leb→le}
+use lib.ListN.{getD, take, List·getD-eq-default}
 use mir.Val.{boolByte}
-use borrow.Author.Tests.{leb-true, le-leb, ne-eqb}
-use Rattle.clock_time.specs.Errors.{accepted}
+use borrow.Author.Tests.{leb-true, le-leb, ltb-true, ltb-false, eq-eqb, ne-eqb}
+use Rattle.clock_time.specs.Errors.{accepted, refused, given, checked}
 use Rattle.clock_time.proofs.Tests.{both, below, below-at}
-use Rattle.calendar.specs.Date.{isLeapYear, monthLengths, daysInMonth, dateExists, firstYear, fullYear}
+use Rattle.calendar.specs.Date.{isLeapYear, monthLengths, daysInMonth, dateExists, fullYear}
 use Rattle.calendar.specs.Date.{knownDate, sum, daysOfYears, daysBeforeMonth, daysSinceEpoch, dayNumber}
-
--- the tables of the code
-abbrev pub lengthTable : List ℕ
-lengthTable = 0 ∷ 31 ∷ 28 ∷ 31 ∷ 30 ∷ 31 ∷ 30 ∷ 31 ∷ 31 ∷ 30 ∷ 31 ∷ 30 ∷ 31 ∷ []
-
-abbrev pub beforeTable : List ℕ
-beforeTable = 0 ∷ 0 ∷ 31 ∷ 59 ∷ 90 ∷ 120 ∷ 151 ∷ 181 ∷ 212 ∷ 243 ∷ 273 ∷ 304 ∷ 334 ∷ []
+use Rattle.calendar.specs.Date.{weekdayNumber, weekdayOf, weekdayOrZero}
 
 pub byte-small : (b : Bool) → boolByte b ≤ 1
 byte-small true = omega arith
 byte-small false = omega arith
 
--- a test of every month, in a leap year and in a common one
-module _ (test : Bool → ℕ → Bool) (passes : (leap : Bool) → T (below 13 (test leap))) where
-  every-month : (leap : Bool) (month : ℕ) → month ≤ 12 → T (test leap month)
-  every-month leap month h = below-at 13 (test leap) (passes leap) month (omega arith)
+-- from 1901 to 2099 every fourth year is a leap year: the one that 100 divides is 2000, and 400 divides it
+pub every-fourth : (year : ℕ) → 1901 ≤ year → year ≤ 2099 → isLeapYear year ≡ eqb (year % 4) 0
+unfolding isLeapYear
+every-fourth year first last = elim (ℕ-discrete (year % 100) 0) [
+  | yes e ↦ simp (eq-eqb (year % 100) 0 e, eq-eqb (year % 400) 0 (omega arith), and-true)
+  | no d ↦ simp (ne-eqb (year % 100) 0 d, and-true)
+]
+
+-- a test that passes for every month, in a leap year and in a common one
+every-month : (test : Bool → ℕ → Bool) → T (below 13 (test true)) → T (below 13 (test false))
+    → (leap : Bool) (month : ℕ) → month ≤ 12 → T (test leap month)
+every-month test l c true month h = below-at 13 (test true) l month (omega arith)
+every-month test l c false month h = below-at 13 (test false) c month (omega arith)
 
 lengthTest : Bool → ℕ → Bool
-lengthTest leap month = eqb month 2 || eqb (getD lengthTable month 0) (getD (0 ∷ monthLengths leap) month 0)
+lengthTest leap month =
+    eqb month 0 || eqb month 2 || eqb (30 + (month + month / 8) % 2) (getD (0 ∷ monthLengths leap) month 0)
 
-pub month-length : (leap : Bool) (month : ℕ) → month ≤ 12 → (month ≡ 2 → ⊥)
-    → getD lengthTable month 0 ≡ getD (0 ∷ monthLengths leap) month 0
+-- every month but February
+pub month-length : (leap : Bool) (month : ℕ) → 1 ≤ month → month ≤ 12 → (month ≡ 2 → ⊥)
+    → 30 + (month + month / 8) % 2 ≡ getD (0 ∷ monthLengths leap) month 0
 unfolding lengthTest monthLengths
-month-length leap month h other =
-    let test = every-month lengthTest passes leap month h in
-    eqb→eq _ _ (rw (ne-eqb month 2 other) at test)
-  where
-    passes : (leap : Bool) → T (below 13 (lengthTest leap))
-    passes true = tt
-    passes false = tt
+month-length leap month one h other =
+    let test = every-month lengthTest tt tt leap month h in
+    eqb→eq _ _ (rw (ne-eqb month 0 (λ z. omega (arith, z)), ne-eqb month 2 other) at test)
 
 pub february-length : (leap : Bool) → 28 + boolByte leap ≡ getD (0 ∷ monthLengths leap) 2 0
 unfolding monthLengths
 february-length true = refl
 february-length false = refl
 
-pub month-small : (leap : Bool) (month : ℕ) → month ≤ 12 → getD (0 ∷ monthLengths leap) month 0 ≤ 31
+month-small : (leap : Bool) (month : ℕ) → month ≤ 12 → getD (0 ∷ monthLengths leap) month 0 ≤ 31
 unfolding monthLengths
-month-small leap month h = leb→le _ _ (every-month (λ l m. leb (getD (0 ∷ monthLengths l) m 0) 31) passes leap month h)
-  where
-    passes : (leap : Bool) → T (below 13 (λ m. leb (getD (0 ∷ monthLengths leap) m 0) 31))
-    passes true = tt
-    passes false = tt
+month-small leap month h =
+    leb→le _ _ (every-month (λ l m. leb (getD (0 ∷ monthLengths l) m 0) 31) tt tt leap month h)
 
-pub before-small : (month : ℕ) → month ≤ 12 → getD beforeTable month 0 ≤ 334
-before-small month h = leb→le _ _ (below-at 13 (λ m. leb (getD beforeTable m 0) 334) tt month (omega arith))
-
-pub no-month : (year month : ℕ) → 12 < month → daysInMonth year month ≡ 0
+pub no-month : (year month : ℕ) → (eqb month 0 || ltb 12 month) ≡ true → daysInMonth year month ≡ 0
 unfolding daysInMonth monthLengths
-no-month year month h = List·getD-eq-default (0 ∷ monthLengths (isLeapYear year)) 0 h
+no-month year zero h = refl
+no-month year (suc m) h =
+    let late = rw (ne-eqb (suc m) 0 (λ z. omega (arith, z))) at h in
+    List·getD-eq-default (0 ∷ monthLengths (isLeapYear year)) 0 (ltb-true 12 (suc m) late)
+
+pub some-month : (month : ℕ) → (eqb month 0 || ltb 12 month) ≡ false → (1 ≤ month) × (month ≤ 12)
+some-month zero h = absurd (true≢false h)
+some-month (suc m) h = (omega arith, ltb-false 12 (suc m) (rw (ne-eqb (suc m) 0 (λ z. omega (arith, z))) at h))
+
+pub from-march : (month : ℕ) → 3 * boolByte (ltb 2 month) ≤ month
+from-march month = go (ltb 2 month) refl
+  where
+    go : (t : Bool) → ltb 2 month ≡ t → 3 * boolByte t ≤ month
+    go true e = omega (arith, ltb-true 2 month e)
+    go false e = omega arith
 
 beforeTest : Bool → ℕ → Bool
-beforeTest leap month = eqb (getD beforeTable month 0 + boolByte (leap && ltb 2 month))
-    (sum (take (month - 1) (monthLengths leap)))
+beforeTest leap month =
+    eqb month 0
+    || eqb (489 * month / 16 + boolByte (ltb 2 month && leap))
+    (30 + 2 * boolByte (ltb 2 month) + sum (take (month - 1) (monthLengths leap)))
 
-pub days-before : (leap : Bool) (month : ℕ) → month ≤ 12
-    → getD beforeTable month 0 + boolByte (leap && ltb 2 month) ≡ sum (take (month - 1) (monthLengths leap))
+-- 489 / 16 days a month are 30 days more than those before it, and from March on two more, less a leap day
+days-before : (leap : Bool) (month : ℕ) → 1 ≤ month → month ≤ 12
+    → 489 * month / 16 + boolByte (ltb 2 month && leap)
+    ≡ 30 + 2 * boolByte (ltb 2 month) + sum (take (month - 1) (monthLengths leap))
 unfolding beforeTest monthLengths
-days-before leap month h = eqb→eq _ _ (every-month beforeTest passes leap month h)
-  where
-    passes : (leap : Bool) → T (below 13 (beforeTest leap))
-    passes true = tt
-    passes false = tt
+days-before leap month one h =
+    let test = every-month beforeTest tt tt leap month h in
+    eqb→eq _ _ (rw (ne-eqb month 0 (λ z. omega (arith, z))) at test)
+
+before-small : (leap : Bool) (month : ℕ) → month ≤ 12 → sum (take (month - 1) (monthLengths leap)) ≤ 335
+unfolding monthLengths
+before-small leap month h =
+    leb→le _ _ (every-month (λ l m. leb (sum (take (m - 1) (monthLengths l))) 335) tt tt leap month h)
 
 -- of the hundred years from 1970 on every fourth has a leap day, 1972 first
-pub days-of-years : (years : ℕ) → years < 100 → daysOfYears 1970 years ≡ 365 * years + (years + 1) / 4
+days-of-years : (years : ℕ) → years < 100 → daysOfYears 1970 years ≡ 365 * years + (years + 1) / 4
 unfolding daysOfYears isLeapYear monthLengths
 days-of-years years h =
     eqb→eq _ _ (below-at 100 (λ n. eqb (daysOfYears 1970 n) (365 * n + (n + 1) / 4)) tt years h)
+
+-- from March on the year's own leap day is counted with those of the years before
+leap-days : (year : ℕ) (march : Bool) → 1970 ≤ year → year ≤ 2069
+    → (year - 1970 + 1 + boolByte march) / 4 ≡ (year - 1970 + 1) / 4 + boolByte (march && isLeapYear year)
+leap-days year false first last = omega arith
+leap-days year true first last = rw (every-fourth year (omega arith) (omega arith)) (elim (ℕ-discrete (year % 4) 0) [
+  | yes e ↦ simp (eq-eqb (year % 4) 0 e) (omega arith)
+  | no d ↦ simp (ne-eqb (year % 4) 0 d) (omega arith)
+])
 
 -- what is known of a date of the years 1970 to 2069
 pub record Known (y m d : ℕ) : Type 0 where
   pub first : 1970 ≤ y
   pub last : y ≤ 2069
+  pub january : 1 ≤ m
   pub month : m ≤ 12
   pub day : 1 ≤ d
   pub small : d ≤ 31
@@ -100,20 +126,20 @@ known year month day h =
     let d = both (leb 1 day) (leb day (daysInMonth year month)) (w .1) in
     let one : 1 ≤ day = leb-true _ _ (d .0) in
     let most : day ≤ daysInMonth year month = leb-true _ _ (d .1) in
-    let m : month ≤ 12 = inside (daysInMonth year month) most one (no-month year month) in
+    let m = inside (eqb month 0 || ltb 12 month) refl most one in
     record {
       first = leb-true _ _ (y .0);
       last = leb-true _ _ (y .1);
-      month = m;
+      january = m .0;
+      month = m .1;
       day = one;
-      small = omega (arith, month-small (isLeapYear year) month m);
+      small = omega (arith, month-small (isLeapYear year) month (m .1));
     }
   where
-    inside : (n : ℕ) → day ≤ n → 1 ≤ day → (12 < month → n ≡ 0) → month ≤ 12
-    inside n most one none = elim (decLt 12 month) [
-      | yes l ↦ let z : n ≡ 0 = none l in absurd (omega arith)
-      | no l ↦ omega arith
-    ]
+    inside : (t : Bool) → (eqb month 0 || ltb 12 month) ≡ t → day ≤ daysInMonth year month → 1 ≤ day
+        → (1 ≤ month) × (month ≤ 12)
+    inside true e most one = let z : ⊥ = omega (arith, no-month year month e) in absurd z
+    inside false e most one = some-month month e
 
 -- two digits of year give a year that is known
 pub known-exists : (n month day : ℕ) → knownDate (fullYear n) month day ≡ dateExists (fullYear n) month day
@@ -125,26 +151,44 @@ pub day-known : (year month day : ℕ) → knownDate year month day ≡ true
 unfolding dayNumber
 day-known year month day h = simp h
 
+-- a weekday is at least 1, so that 0 stands for no such date
+pub weekday-answer : (year month day : ℕ) → weekdayOf year month day
+    ≡ cond (eqb (weekdayOrZero year month day) 0) (refused 5) (accepted (weekdayOrZero year month day))
+unfolding weekdayOf weekdayOrZero weekdayNumber
+weekday-answer year month day = go (knownDate year month day) ((daysSinceEpoch year month day + 3) % 7)
+  where
+    go : (t : Bool) (n : ℕ) → checked (given 5 (not t) ∷ []) (1 + n)
+        ≡ cond (eqb (cond t (1 + n) 0) 0) (refused 5) (accepted (cond t (1 + n) 0))
+    go true n = simp (ne-eqb (1 + n) 0 (λ z. omega (arith, z)))
+    go false n = refl
+
+apart : (n leaps own more whole march before day : ℕ) → 1 ≤ day → more ≡ leaps + own → whole + own ≡ 30 + march + before
+    → n + (more + whole + day - 31 - march) ≡ n + leaps + before + (day - 1)
+apart n leaps own more whole march before day h e f = omega arith
+
 -- the sum of the code
-pub days-sum : (year month day before : ℕ) → knownDate year month day ≡ true → before ≡ daysBeforeMonth year month
-    → 365 * (year - 1970) + (year - 1970 + 1) / 4 + before + (day - 1) ≡ daysSinceEpoch year month day
-unfolding daysSinceEpoch
-days-sum year month day before h e =
+pub days-sum : (year month day : ℕ) → knownDate year month day ≡ true
+    → 365 * (year - 1970)
+    + ((year - 1970 + 1 + boolByte (ltb 2 month)) / 4 + 489 * month / 16 + day - 31 - 2 * boolByte (ltb 2 month))
+    ≡ daysSinceEpoch year month day
+unfolding daysSinceEpoch daysBeforeMonth
+days-sum year month day h =
     let k = known year month day h in
-    let y : year - 1970 < 100 = omega arith in
-    rw (e, days-of-years (year - 1970) y)
+    let leaps = leap-days year (ltb 2 month) (k .first) (k .last) in
+    rw (days-of-years (year - 1970) (omega arith))
+    (apart (365 * (year - 1970)) _ _ _ (489 * month / 16) _ _ day (k .day) leaps
+    (days-before (isLeapYear year) month (k .january) (k .month)))
 
 -- a date of the years 1970 to 2069 is less than 40,000 days after 1 January 1970
 pub days-small : (year month day : ℕ) → knownDate year month day ≡ true → daysSinceEpoch year month day < 40000
 unfolding daysSinceEpoch daysBeforeMonth
 days-small year month day h =
     let k = known year month day h in
-    let before = days-before (isLeapYear year) month (k .month) in
-    omega (
-      arith,
-      days-of-years (year - 1970) (omega arith),
-      before,
-      before-small month (k .month),
-      byte-small
-          (isLeapYear year && ltb 2 month),
-    )
+    omega (arith, days-of-years (year - 1970) (omega arith), before-small (isLeapYear year) month (k .month))
+
+-- 365 days are 52 weeks and a day, so that a year counts as one day
+pub weekday-sum : (year month day rest : ℕ) → knownDate year month day ≡ true
+    → 365 * (year - 1970) + rest ≡ daysSinceEpoch year month day
+    → 1 + (year - 1970 + rest + 3) % 7 ≡ weekdayOrZero year month day
+unfolding weekdayOrZero weekdayNumber
+weekday-sum year month day rest h e = simp h (omega arith)

@@ -1,6 +1,6 @@
 -- Gregorian dates. Assumes nothing.
 use Prim.Native.Nat.{ℕ, zero, suc, _+_, _-_, _%_}
-use mathlib.Core.Bool.{Bool, true, false, cond, not, _&&_, _||_}
+use mathlib.Core.Bool.{Bool, cond, not, _&&_, _||_}
 use mathlib.Core.List.{List, [], _∷_}
 use lib.Dec.{leb, eqb}
 use lib.ListN.{getD, take}
@@ -62,6 +62,10 @@ weekdayNumber year month day = 1 + (daysSinceEpoch year month day + 3) % 7
 -- "5 no such date" (01, Refusal numbers), also outside 1970 to 2069
 unfoldable pub weekdayOf : ℕ → ℕ → ℕ → Answer ℕ
 weekdayOf year month day = checked (given 5 (not (knownDate year month day)) ∷ []) (weekdayNumber year month day)
+
+-- 0, which is no weekday, where the date is not one of 1970 to 2069
+unfoldable pub weekdayOrZero : ℕ → ℕ → ℕ → ℕ
+weekdayOrZero year month day = cond (knownDate year month day) (weekdayNumber year month day) 0
 
 abbrev pub dateAnswer : DateAnswer → Answer ℕ
 dateAnswer (Number n) = accepted n

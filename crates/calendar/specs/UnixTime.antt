@@ -1,7 +1,7 @@
 -- Unix time: the paper's instant. Assumes nothing.
-use Prim.Native.Nat.{ℕ, _+_, _*_}
+use Prim.Native.Nat.{_+_, _*_}
 use mathlib.Core.Bool.{Bool, not, _&&_}
-use mathlib.Core.List.{List, [], _∷_}
+use mathlib.Core.List.{[], _∷_}
 use lib.Dec.{leb}
 use lib.IntN.{ℤ, pos, natAbs, _-ℤ_, _*ℤ_}
 use Rattle.clock_time.specs.Errors.{Answer, accepted, refused, errorNumber, given, checked}
@@ -24,8 +24,9 @@ isValid t =
     && leb (t .weekday) 7
     && offsetInRange (t .«utc_offset»)
 
--- "The instant is 86,400 × days since 1 January 1970 + 3,600 × hour + 60 × minute + second − 60 × offset. It may be below
--- zero: 1 January 1970 00:00:00 at +60 is −3,600. Second 60 has the instant of the second after it." (01, The reading)
+-- "The instant is 86,400 × days since 1 January 1970 + 3,600 × hour + 60 × minute + second − 60 × offset. It may be
+-- below zero: 1 January 1970 00:00:00 at +60 is −3,600. Second 60 has the instant of the second after it." (01, The
+-- reading)
 unfoldable pub instantOf : ClockTime → ℤ
 instantOf t =
     pos (86400 * daysSinceEpoch (t .year) (t .month) (t .day) + (3600 * t .hour + 60 * t .minute + t .second))

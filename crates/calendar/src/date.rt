@@ -2,9 +2,9 @@
 use clock_time::Error;
 ghost use mathlib.Core.Path.{_≡_};
 ghost use mathlib.Core.Bool.{true};
-ghost use Prim.Native.Nat.{_+_, _≤_, _<_};
-ghost use Rattle.calendar.specs.Date.{isLeapYear, daysInMonth, dateExists, fullYear, knownDate};
-ghost use Rattle.calendar.specs.Date.{daysBeforeMonth, daysSinceEpoch, dayNumber, weekdayOf, dateAnswer};
+ghost use Prim.Native.Nat.{_+_, _-_, _*_};
+ghost use Rattle.calendar.specs.Date.{isLeapYear, daysInMonth, dateExists, fullYear, knownDate, daysSinceEpoch};
+ghost use Rattle.calendar.specs.Date.{dayNumber, weekdayOf, weekdayOrZero, dateAnswer};
 
 // A number worked out from a date, or the error.
 pub enum DateAnswer {
@@ -12,30 +12,27 @@ pub enum DateAnswer {
     Refused(Error),
 }
 
-// Days of each month of a common year; no month 0.
-const MONTH_LENGTHS: [u8; 13] = [0, 31, 28, 31, 30, 31, 30, 31, 31, 30, 31, 30, 31];
-
-// Days of a common year before each month; no month 0.
-const DAYS_BEFORE: [u16; 13] = [0, 0, 31, 59, 90, 120, 151, 181, 212, 243, 273, 304, 334];
-
-// True for a Gregorian leap year.
+// True for a Gregorian leap year; every fourth year is one from 1901 to 2099.
 pub fn is_leap_year(year: u16) -> bool
     ensures { λ r. ⌜ r ≡ isLeapYear year ⌝ }
 {
+    if (1901 <= year) & (year <= 2099) {
+        return year % 4 == 0;
+    }
     (year % 4 == 0) & ((year % 100 != 0) | (year % 400 == 0))
 }
 
-// The days of a month, 0 where there is no such month.
+// The days of a month, 0 where there is no such month: 31 in the odd months up to July and the even ones after it.
 pub fn days_in_month(year: u16, month: u8) -> u8
     ensures { λ r. ⌜ r ≡ daysInMonth year month ⌝ }
 {
-    if 12 < month {
+    if (month == 0) | (12 < month) {
         return 0;
     }
     if month == 2 {
         return 28 + is_leap_year(year) as u8;
     }
-    MONTH_LENGTHS[month as usize]
+    30 + (month + month / 8) % 2
 }
 
 // True where the Gregorian calendar has the date.
@@ -54,19 +51,24 @@ pub fn full_year(digits: u8) -> u16
 }
 
 // True for a date of the years 1970 to 2069.
-pub(crate) fn is_known_date(year: u16, month: u8, day: u8) -> bool
+pub fn is_known_date(year: u16, month: u8, day: u8) -> bool
     ensures { λ r. ⌜ r ≡ knownDate year month day ⌝ }
 {
-    let exists = date_exists(year, month, day);
-    (1970 <= year) & (year <= 2069) & exists
+    if (1970 <= year) & (year <= 2069) {
+        return date_exists(year, month, day);
+    }
+    false
 }
 
-fn days_before_month(year: u16, month: u8) -> u32
-    requires { ⌜ month ≤ 12 ⌝ }
-    ensures { λ r. ⌜ r ≡ daysBeforeMonth year month ⌝ }
+// Days from 1 January 1970 to a date, less 365 for each year. At 489 / 16 days a month February has 30; from March on
+// two are taken off, and the year's own leap day is counted.
+fn days_less_years(year: u16, month: u8, day: u8) -> u32
+    requires { ⌜ knownDate year month day ≡ true ⌝ }
+    ensures { λ r. ⌜ 365 * (year - 1970) + r ≡ daysSinceEpoch year month day ⌝ }
 {
-    let leap_day = is_leap_year(year) & (2 < month);
-    DAYS_BEFORE[month as usize] as u32 + leap_day as u32
+    let years = (year - 1970) as u32;
+    let march = (2 < month) as u32;
+    (years + 1 + march) / 4 + 489 * (month as u32) / 16 + day as u32 - 31 - 2 * march
 }
 
 // Days from 1 January 1970 to a date.
@@ -74,9 +76,7 @@ pub(crate) fn days_since_epoch(year: u16, month: u8, day: u8) -> u32
     requires { ⌜ knownDate year month day ≡ true ⌝ }
     ensures { λ r. ⌜ r ≡ daysSinceEpoch year month day ⌝ }
 {
-    let years = (year - 1970) as u32;
-    let before = days_before_month(year, month);
-    365 * years + (years + 1) / 4 + before + (day as u32 - 1)
+    365 * ((year - 1970) as u32) + days_less_years(year, month, day)
 }
 
 // Days from 1 January 1970 to a date of the years 1970 to 2069, else 5.
@@ -89,12 +89,24 @@ pub fn day_number(year: u16, month: u8, day: u8) -> DateAnswer
     DateAnswer::Refused(Error::NoSuchDate)
 }
 
+// The weekday, 1 Monday to 7 Sunday, of a date of the years 1970 to 2069, else 0. Each 365 days move it on by one.
+pub fn weekday_number(year: u16, month: u8, day: u8) -> u8
+    ensures { λ r. ⌜ r ≡ weekdayOrZero year month day ⌝ }
+{
+    if is_known_date(year, month, day) {
+        let days = (year - 1970) as u32 + days_less_years(year, month, day);
+        return 1 + ((days + 3) % 7) as u8;
+    }
+    0
+}
+
 // The weekday, 1 Monday to 7 Sunday, of a date of the years 1970 to 2069, else 5.
 pub fn weekday_of(year: u16, month: u8, day: u8) -> DateAnswer
     ensures { λ r. ⌜ dateAnswer r ≡ weekdayOf year month day ⌝ }
 {
-    if is_known_date(year, month, day) {
-        return DateAnswer::Number(1 + (days_since_epoch(year, month, day) + 3) % 7);
+    let weekday = weekday_number(year, month, day);
+    if weekday == 0 {
+        return DateAnswer::Refused(Error::NoSuchDate);
     }
-    DateAnswer::Refused(Error::NoSuchDate)
+    DateAnswer::Number(weekday as u32)
 }

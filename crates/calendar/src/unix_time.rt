@@ -16,7 +16,7 @@ pub enum UnixTime {
 }
 
 // True for at most 840 minutes either way.
-pub(crate) fn offset_in_range(offset: i16) -> bool
+pub fn offset_in_range(offset: i16) -> bool
     ensures { λ r. ⌜ r ≡ offsetInRange offset ⌝ }
 {
     (-840 <= offset) & (offset <= 840)

@@ -1,10 +1,10 @@
--- `calendar::date::days_in_month` meets its contract: the table of a common year, and February by itself. Assumes
+-- `calendar::date::days_in_month` meets its contract: February by itself, the other months by their number. Assumes
 -- nothing.
 use borrow.Author.Needs.{needs}
 use native.Mathlib.Omega.{arith}
-use mathlib.Core.Path.{sym, _∙_}
+use mathlib.Core.Path.{sym}
 use Rattle.calendar.specs.Date.{isLeapYear, daysInMonth}
-use Rattle.calendar.proofs.DateLaws.{byte-small, no-month, month-length, february-length}
+use Rattle.calendar.proofs.DateLaws.{byte-small, no-month, some-month, month-length, february-length}
 use Rattle.calendar.proofs.date.days_in_month.Statement.{statement}
 use Rattle.calendar.proofs.date.days_in_month.Tie as tie
 
@@ -19,13 +19,25 @@ unfolding daysInMonth
 returns-2 c = rw (c .before .if2 .taken, c .is-leap-year .ensures)
     (february-length (isLeapYear (c .before .before .before .args .year)))
 
+add-result-2 : tie.Need-add-result-2
+add-result-2 c = omega (arith, some-month (c .before .before .args .month) (c .before .if1 .left) .1)
+
 returns-3 : tie.Need-returns-3
 unfolding daysInMonth
 returns-3 c =
     let a = c .before .before .args in
-    month-length (isLeapYear (a .year)) (a .month) (c .before .if1 .left) (c .if2 .left)
+    let m = some-month (a .month) (c .before .if1 .left) in
+    month-length (isLeapYear (a .year)) (a .month) (m .0) (m .1) (c .if2 .left)
 
 pub days-in-month-spec : {M : Type 1} → statement M
 days-in-month-spec =
     tie.close
-    (tie.spec returns (λ c κs. search needs) (λ c. search needs) add-result returns-2 (λ c. search needs) returns-3)
+    (tie.spec
+    returns
+    (λ c κs. search needs)
+    (λ c. search needs)
+    add-result
+    returns-2
+    add-result-2
+    (λ c. search needs)
+    returns-3)

@@ -6,7 +6,7 @@ use Prim.Native.Nat.{_+_, _*_, _<_, _^_}
 use mathlib.Core.Path.{_≡_, _∙_}
 use lib.IntN.{pos, _-ℤ_}
 use mir.Syntax.{w16, w32}
-use mir.Val.{SFits, toZ, ofZ}
+use mir.Val.{toZ, ofZ}
 use mir.Facts.{toZ-ofZ, toZ-pos, sfits-widen}
 use Rattle.calendar.specs.TimeOfDay.{utcMinute}
 use Rattle.calendar.proofs.SignedLaws.{widened, difference-size, shifted, Shifted}

@@ -1,0 +1,43 @@
+-- `calendar::date::weekday_number` meets its contract. Assumes nothing.
+use borrow.Author.Needs.{needs}
+use native.Mathlib.Omega.{arith}
+use Prim.Native.Nat.{_+_, _-_, _<_}
+use mathlib.Core.Path.{_≡_, sym, _∙_}
+use mathlib.Core.Bool.{true}
+use Rattle.calendar.specs.Date.{knownDate, weekdayOrZero}
+use Rattle.calendar.proofs.DateLaws.{known, days-small, weekday-sum}
+use Rattle.calendar.proofs.date.weekday_number.Statement.{statement}
+use Rattle.calendar.proofs.date.weekday_number.Tie as tie
+
+dated : (c : tie.Then1)
+    → knownDate (c .before .before .args .year) (c .before .before .args .month) (c .before .before .args .day) ≡ true
+dated c = sym (c .before .is-known-date .ensures) ∙ c .if1 .taken
+
+sub-days : tie.Need-sub-days
+sub-days c = known _ _ _ (dated c) .first
+
+small : (c : tie.After-days-less-years)
+    → c .before .before .before .args .year - 1970 + c .days-less-years .result < 40000
+small c = omega (arith, c .days-less-years .ensures, days-small _ _ _ (dated (c .before)))
+
+returns : tie.Need-returns
+returns c = weekday-sum _ _ _ _ (dated (c .before)) (c .days-less-years .ensures)
+
+returns-2 : tie.Need-returns-2
+unfolding weekdayOrZero
+returns-2 c = simp (← (c .before .is-known-date .ensures), c .if1 .left)
+
+pub weekday-number-spec : {M : Type 1} → statement M
+weekday-number-spec =
+    tie.close
+    (tie.spec
+    (λ c κs. search needs)
+    sub-days
+    (λ c. search needs)
+    (λ c κs. dated c)
+    (λ c. omega (arith, small c))
+    (λ c. omega (arith, small c))
+    (λ c. search needs)
+    (λ c. search needs)
+    returns
+    returns-2)

@@ -36,20 +36,21 @@ every-month test l c false month h = below-at 13 (test false) c month (omega ari
 
 lengthTest : Bool → ℕ → Bool
 lengthTest leap month =
-    eqb month 0 || eqb month 2 || eqb (30 + (month + month / 8) % 2) (getD (0 ∷ monthLengths leap) month 0)
+    eqb month 0
+    || eqb (30 + (month + month / 8) % 2 - boolByte (eqb month 2) * (2 - boolByte leap))
+    (getD (0 ∷ monthLengths leap) month 0)
 
--- every month but February
-pub month-length : (leap : Bool) (month : ℕ) → 1 ≤ month → month ≤ 12 → (month ≡ 2 → ⊥)
-    → 30 + (month + month / 8) % 2 ≡ getD (0 ∷ monthLengths leap) month 0
+pub month-length : (leap : Bool) (month : ℕ) → 1 ≤ month → month ≤ 12
+    → 30 + (month + month / 8) % 2 - boolByte (eqb month 2) * (2 - boolByte leap) ≡ getD (0 ∷ monthLengths leap) month 0
 unfolding lengthTest monthLengths
-month-length leap month one h other =
-    let test = every-month lengthTest tt tt leap month h in
-    eqb→eq _ _ (rw (ne-eqb month 0 (λ z. omega (arith, z)), ne-eqb month 2 other) at test)
+month-length leap month one h =
+    eqb→eq _ _ (rw (ne-eqb month 0 (λ z. omega (arith, z))) at (every-month lengthTest tt tt leap month h))
 
-pub february-length : (leap : Bool) → 28 + boolByte leap ≡ getD (0 ∷ monthLengths leap) 2 0
-unfolding monthLengths
-february-length true = refl
-february-length false = refl
+-- at most two days are lacking
+pub lacking-small : (february leap : Bool) → boolByte february * (2 - boolByte leap) ≤ 2
+lacking-small true true = omega arith
+lacking-small true false = omega arith
+lacking-small false leap = omega arith
 
 month-small : (leap : Bool) (month : ℕ) → month ≤ 12 → getD (0 ∷ monthLengths leap) month 0 ≤ 31
 unfolding monthLengths
@@ -162,6 +163,7 @@ weekday-answer year month day = go (knownDate year month day) ((daysSinceEpoch y
     go true n = simp (ne-eqb (1 + n) 0 (λ z. omega (arith, z)))
     go false n = refl
 
+-- the leap days and the months' days add up, whichever of them has the year's own leap day
 apart : (n leaps own more whole march before day : ℕ) → 1 ≤ day → more ≡ leaps + own → whole + own ≡ 30 + march + before
     → n + (more + whole + day - 31 - march) ≡ n + leaps + before + (day - 1)
 apart n leaps own more whole march before day h e f = omega arith
@@ -186,9 +188,21 @@ days-small year month day h =
     let k = known year month day h in
     omega (arith, days-of-years (year - 1970) (omega arith), before-small (isLeapYear year) month (k .month))
 
+-- so that what a date adds to its years is small
+pub rest-small : (year month day rest : ℕ) → knownDate year month day ≡ true
+    → 365 * (year - 1970) + rest ≡ daysSinceEpoch year month day → rest < 400
+unfolding daysSinceEpoch daysBeforeMonth
+rest-small year month day rest h e =
+    let k = known year month day h in
+    omega (arith, e, days-of-years (year - 1970) (omega arith), before-small (isLeapYear year) month (k .month))
+
+-- the weeks of a few days, without a division
+pub weeks-of : (days : ℕ) → days < 600 → days * 293 / 2048 ≡ days / 7
+weeks-of days h = eqb→eq _ _ (below-at 600 (λ n. eqb (n * 293 / 2048) (n / 7)) tt days h)
+
 -- 365 days are 52 weeks and a day, so that a year counts as one day
 pub weekday-sum : (year month day rest : ℕ) → knownDate year month day ≡ true
-    → 365 * (year - 1970) + rest ≡ daysSinceEpoch year month day
-    → 1 + (year - 1970 + rest + 3) % 7 ≡ weekdayOrZero year month day
+    → 365 * (year - 1970) + rest ≡ daysSinceEpoch year month day → (n : ℕ) → n ≡ (3 + (year - 1970) + rest) / 7
+    → 1 + (3 + (year - 1970) + rest - 7 * n) ≡ weekdayOrZero year month day
 unfolding weekdayOrZero weekdayNumber
-weekday-sum year month day rest h e = simp h (omega arith)
+weekday-sum year month day rest h e n w = simp h (omega arith)

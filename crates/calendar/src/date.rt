@@ -2,7 +2,7 @@
 use clock_time::Error;
 ghost use mathlib.Core.Path.{_≡_};
 ghost use mathlib.Core.Bool.{true};
-ghost use Prim.Native.Nat.{_+_, _-_, _*_};
+ghost use Prim.Native.Nat.{_+_, _-_, _*_, _/_, _<_};
 ghost use Rattle.calendar.specs.Date.{isLeapYear, daysInMonth, dateExists, fullYear, knownDate, daysSinceEpoch};
 ghost use Rattle.calendar.specs.Date.{dayNumber, weekdayOf, weekdayOrZero, dateAnswer};
 
@@ -22,17 +22,16 @@ pub fn is_leap_year(year: u16) -> bool
     (year % 4 == 0) & ((year % 100 != 0) | (year % 400 == 0))
 }
 
-// The days of a month, 0 where there is no such month: 31 in the odd months up to July and the even ones after it.
+// The days of a month, 0 where there is no such month: 31 in the odd months up to July and the even ones after it, 30 in
+// the others, of which February lacks two, or one in a leap year. Without a choice, since months come in no order.
 pub fn days_in_month(year: u16, month: u8) -> u8
     ensures { λ r. ⌜ r ≡ daysInMonth year month ⌝ }
 {
     if (month == 0) | (12 < month) {
         return 0;
     }
-    if month == 2 {
-        return 28 + is_leap_year(year) as u8;
-    }
-    30 + (month + month / 8) % 2
+    let lacking = (month == 2) as u8 * (2 - is_leap_year(year) as u8);
+    30 + (month + month / 8) % 2 - lacking
 }
 
 // True where the Gregorian calendar has the date.
@@ -89,13 +88,21 @@ pub fn day_number(year: u16, month: u8, day: u8) -> DateAnswer
     DateAnswer::Refused(Error::NoSuchDate)
 }
 
+// The weeks of fewer than 600 days.
+fn weeks(days: u32) -> u32
+    requires { ⌜ days < 600 ⌝ }
+    ensures { λ r. ⌜ r ≡ days / 7 ⌝ }
+{
+    days * 293 / 2048
+}
+
 // The weekday, 1 Monday to 7 Sunday, of a date of the years 1970 to 2069, else 0. Each 365 days move it on by one.
 pub fn weekday_number(year: u16, month: u8, day: u8) -> u8
     ensures { λ r. ⌜ r ≡ weekdayOrZero year month day ⌝ }
 {
     if is_known_date(year, month, day) {
-        let days = (year - 1970) as u32 + days_less_years(year, month, day);
-        return 1 + ((days + 3) % 7) as u8;
+        let days = 3 + (year - 1970) as u32 + days_less_years(year, month, day);
+        return 1 + (days - 7 * weeks(days)) as u8;
     }
     0
 }

@@ -5,7 +5,7 @@ use Prim.Native.Nat.{_+_, _-_, _<_}
 use mathlib.Core.Path.{_≡_, sym, _∙_}
 use mathlib.Core.Bool.{true}
 use Rattle.calendar.specs.Date.{knownDate, weekdayOrZero}
-use Rattle.calendar.proofs.DateLaws.{known, days-small, weekday-sum}
+use Rattle.calendar.proofs.DateLaws.{known, rest-small, weekday-sum}
 use Rattle.calendar.proofs.date.weekday_number.Statement.{statement}
 use Rattle.calendar.proofs.date.weekday_number.Tie as tie
 
@@ -16,12 +16,19 @@ dated c = sym (c .before .is-known-date .ensures) ∙ c .if1 .taken
 sub-days : tie.Need-sub-days
 sub-days c = known _ _ _ (dated c) .first
 
+add-days : tie.Need-add-days
+add-days c = omega (arith, known _ _ _ (dated c) .last)
+
 small : (c : tie.After-days-less-years)
-    → c .before .before .before .args .year - 1970 + c .days-less-years .result < 40000
-small c = omega (arith, c .days-less-years .ensures, days-small _ _ _ (dated (c .before)))
+    → 3 + (c .before .before .before .args .year - 1970) + c .days-less-years .result < 600
+small c =
+    let y = known _ _ _ (dated (c .before)) in
+    omega (arith, y .last, rest-small _ _ _ _ (dated (c .before)) (c .days-less-years .ensures))
 
 returns : tie.Need-returns
-returns c = weekday-sum _ _ _ _ (dated (c .before)) (c .days-less-years .ensures)
+returns c =
+    let d = c .before in
+    weekday-sum _ _ _ _ (dated (d .before)) (d .days-less-years .ensures) _ (c .weeks .ensures)
 
 returns-2 : tie.Need-returns-2
 unfolding weekdayOrZero
@@ -34,10 +41,13 @@ weekday-number-spec =
     (λ c κs. search needs)
     sub-days
     (λ c. search needs)
+    add-days
     (λ c κs. dated c)
     (λ c. omega (arith, small c))
-    (λ c. omega (arith, small c))
-    (λ c. search needs)
-    (λ c. search needs)
+    (λ c κs. small c)
+    (λ c. omega (arith, small (c .before), c .weeks .ensures))
+    (λ c. omega (arith, c .weeks .ensures))
+    (λ c. omega (arith, small (c .before), c .weeks .ensures))
+    (λ c. omega (arith, small (c .before), c .weeks .ensures))
     returns
     returns-2)

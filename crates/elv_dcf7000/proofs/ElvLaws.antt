@@ -1,81 +1,138 @@
--- Laws of the ELV string: its weekday, its reading once it fits its layout, its text. Assumes nothing.
-use Prim.Native.Nat.{ℕ, _+_, _*_, _%_, _≤_, _<_}
+-- Laws of the ELV string: its weekday, its flags, its reading once it fits its layout, its text, and that the writer may
+-- decide from the clock time. Assumes nothing.
+use Prim.Native.Nat.{ℕ, _+_, _*_, _%_, _^_, _≤_, _<_}
 use native.Mathlib.Omega.{arith}
+use native.Mathlib.Decide.{ℕ-discrete, decLt}
 use mathlib.Core.Path.{_≡_, refl, sym, ap, _∙_}
-use mathlib.Core.Bool.{Bool, true, false, not, cond}
+use mathlib.Core.Bool.{Bool, true, false, not, cond, _&&_, _||_, Bool·beq}
 use mathlib.Core.List.{List, [], _∷_}
-use lib.Dec.{eqb, eqb→eq, lit≤}
+use lib.Dec.{eqb, leb, ltb, eqb→eq, lit<, lit≤}
+use lib.ListN.{getD}
 use mir.Val.{boolByte}
-use borrow.Author.Tests.{le-leb, lt-ltb, le-ltb, ltb-false}
+use borrow.Author.Tests.{eq-eqb, ne-eqb, eqb-true, leb-true, le-leb, lt-ltb, le-ltb, ltb-false, not-true}
 use Rattle.clock_time.specs.Errors.{Answer, accepted, refused, given, checked}
-use Rattle.clock_time.proofs.ErrorLaws.{accepted-passes}
-use Rattle.clock_time.proofs.Tests.{below-at}
-use Rattle.calendar.specs.Date.{dateExists, fullYear, knownDate, daysSinceEpoch, weekdayOf, weekdayNumber}
+use Rattle.clock_time.specs.Same.{eqℤ, sameFields, sameTime}
+use Rattle.clock_time.specs.Writing.{writing}
+use Rattle.clock_time.specs.declared.ClockTime.{ClockTime}
+use Rattle.clock_time.proofs.SameLaws.{eqℤ-refl, eqb-refl, beq-refl, beq-true, sameTime-refl, sameTime-true}
+use Rattle.clock_time.proofs.Tests.{both, below-at}
+use Rattle.calendar.specs.Date.{dateExists, fullYear, knownDate, weekdayOf, weekdayNumber, weekdayOrZero}
+use Rattle.calendar.specs.TimeOfDay.{timeExists}
+use Rattle.calendar.specs.UnixTime.{isValid}
 use Rattle.calendar.proofs.DateLaws.{known-exists}
+use Rattle.decimal.specs.Decimal.{digits, value, valueFrom}
+use Rattle.decimal.proofs.DecimalLaws.{value-digits, digit-range}
 use Rattle.layout.specs.Ascii.{ascii}
 use Rattle.layout.specs.Accepts.{Accepts}
-use Rattle.layout.specs.Layout.{FitsLayout, number}
+use Rattle.layout.specs.Layout.{allowed, fitsFrom, FitsLayout, number}
 use Rattle.layout.specs.Text.{clockChecks}
+use Rattle.layout.proofs.LayoutLaws.{tested-fits, digit-place}
 use Rattle.layout.proofs.TextLaws.{read-fitting}
 use Rattle.layout.proofs.WriteLaws.{restore-fits, digits-number, digits-year}
-use Rattle.elv_dcf7000.specs.Elv.{elvLayout, weekdayAnswer, elvWeekday, elvFlags, elvFlagFault}
-use Rattle.elv_dcf7000.specs.Elv.{summerIn, changeIn, unsynchronisedIn, elvFields, flagSum, elvText, elv, readElv}
+use Rattle.layout.proofs.DecideLaws.{digit-fits, Written, written, Decides, zone-in-range}
+use Rattle.layout.proofs.DecideLaws as text
+use Rattle.elv_dcf7000.specs.Elv.{elvLayout, elvFlags, elvFlagFault, summerIn, changeIn, unsynchronisedIn}
+use Rattle.elv_dcf7000.specs.Elv.{elvOffset, sentFields, withWeekday, elvFields, flagSum, elvText, elvCarries}
+use Rattle.elv_dcf7000.specs.Elv.{elv, readElv, writeElv}
 
--- ---- the weekday is what the calendar answers
-pub weekdayOf-known : (year month day : ℕ) → knownDate year month day ≡ true
-    → weekdayOf year month day ≡ accepted (weekdayNumber year month day)
-unfolding weekdayOf weekdayNumber
-weekdayOf-known year month day h = rw h
-
-pub weekday-answered : (s : List ℕ) (w : ℕ) → accepted w ≡ weekdayAnswer s → w ≡ elvWeekday s
-unfolding weekdayAnswer weekdayOf elvWeekday weekdayNumber
-weekday-answered s w h =
-    let y = fullYear (number 2 0 s) in
-    let m = number 2 3 s in
-    let d = number 2 6 s in
-    accepted-passes (given 5 (not (knownDate y m d)) ∷ []) (1 + (daysSinceEpoch y m d + 3) % 7) w (sym h) .1
-
-pub weekday-small : (s : List ℕ) (w : ℕ) → accepted w ≡ weekdayAnswer s → w < 8
-unfolding elvWeekday weekdayNumber
-weekday-small s w h = omega (arith, weekday-answered s w h)
-
--- the weekday of what is read is that of its date
+-- ---- the weekday
+-- the weekday of what is read is the one that the calendar has for its date
 pub read-weekday : (s : List ℕ) → Accepts elv s
-    → weekdayOf (fullYear (number 2 0 s)) (number 2 3 s) (number 2 6 s) ≡ accepted (elvWeekday s)
-unfolding elvWeekday elv elvFields
-read-weekday s r = weekdayOf-known _ _ _ (known-exists _ _ _ ∙ r .date)
+    → weekdayOf (fullYear (number 2 0 s)) (number 2 3 s) (number 2 6 s) ≡ accepted (elvFields s .weekday)
+unfolding weekdayOf weekdayOrZero elv elvFields sentFields withWeekday
+read-weekday s r = simp (known-exists _ _ _ ∙ r .date)
 
--- ---- a string that fits its layout
-no-date : {A : Type 0} (t : Bool) (k w : ℕ) (rest : Answer A) → refused k ≡ checked (given 5 (not t) ∷ []) w
-    → cond (not t) (refused 5) rest ≡ refused k
-no-date true k w rest e = let z : _≡_ {A = ℕ} 0 1 = cc in absurd (omega arith)
-no-date false k w rest e = let five : 5 ≡ k = cc in ap refused five
+weekday-range : (y m d : ℕ) → knownDate y m d ≡ true
+    → (leb 1 (weekdayOrZero y m d) && leb (weekdayOrZero y m d) 7) ≡ true
+unfolding weekdayOrZero weekdayNumber
+weekday-range y m d h =
+    let first : 1 ≤ weekdayNumber y m d = omega arith in
+    let last : weekdayNumber y m d ≤ 7 = omega arith in
+    rw h (rw (le-leb 1 (weekdayNumber y m d) first, le-leb (weekdayNumber y m d) 7 last))
 
-module _ {s : List ℕ} (h : FitsLayout elvLayout s) where
-  pub read-flags : 7 < elvFlags s → readElv s ≡ refused 4
-  unfolding readElv elv elvFlagFault
-  read-flags k = read-fitting elv s h ∙ simp (lt-ltb 7 (elvFlags s) k)
+-- the answer with its date's weekday
+abbrev pub onItsDay : Answer ClockTime → Answer ClockTime
+onItsDay (accepted t) = accepted (withWeekday t)
+onItsDay (refused k) = refused k
 
-  pub read-clock : elvFlags s ≤ 7 → readElv s ≡ checked (clockChecks (elvFields s) false) (elvFields s)
-  unfolding readElv elv elvFlagFault
-  read-clock k = read-fitting elv s h ∙ simp (le-ltb 7 (elvFlags s) k)
-
-  -- a date that the calendar refuses does not exist
-  pub read-date : elvFlags s ≤ 7 → (k : ℕ) → refused k ≡ weekdayAnswer s → readElv s ≡ refused k
-  unfolding weekdayAnswer weekdayOf clockChecks elvFields
-  read-date few k e = read-clock few ∙ no-date (dateExists _ _ _) k _ _ (rw known-exists at e)
+-- whatever weekday a clock time passed the checks with, it passes them with its date's
+day-checks : (t : ClockTime) (n : ℕ) → t .year ≡ fullYear n → t .weekday ≡ 1
+    → onItsDay (checked (clockChecks t false) t) ≡ checked (clockChecks (withWeekday t) false) (withWeekday t)
+unfolding clockChecks withWeekday
+day-checks t n year monday =
+    go (dateExists (t .year) (t .month) (t .day)) (timeExists (t .hour) (t .minute) (t .second) (t .«utc_offset»)) refl
+  where
+    go : (d x : Bool) → dateExists (t .year) (t .month) (t .day) ≡ d
+        → onItsDay (cond (not d) (refused 5) (cond (not x || false) (refused 6)
+        (cond (not (leb 1 (t .weekday) && leb (t .weekday) 7)) (refused 7) (accepted t))))
+        ≡ cond (not d) (refused 5) (cond (not x || false) (refused 6)
+        (cond (not (leb 1 (weekdayOrZero (t .year) (t .month) (t .day))
+        && leb (weekdayOrZero (t .year) (t .month) (t .day)) 7)) (refused 7) (accepted (withWeekday t))))
+    go false x e = refl
+    go true false e = refl
+    go true true e =
+        let known = rw (← year) at (known-exists n (t .month) (t .day)) in
+        rw (monday, weekday-range (t .year) (t .month) (t .day) (known ∙ e))
 
 -- ---- the flags
+module _ {s : List ℕ} (h : FitsLayout elvLayout s) where
+  first-flag : (48 ≤ getD s 18 0) × (getD s 18 0 ≤ 57)
+  unfolding elvLayout ascii
+  first-flag = digit-range (getD s 18 0) (digit-place h 18 (lit< tt) refl)
+
+  second-flag : (48 ≤ getD s 19 0) × (getD s 19 0 ≤ 57)
+  unfolding elvLayout ascii
+  second-flag = digit-range (getD s 19 0) (digit-place h 19 (lit< tt) refl)
+
+  -- the number is at most 7 if its first digit is 0 and its second at most 7
+  pub flag-fault : (not (eqb (getD s 18 0) 48) || ltb 55 (getD s 19 0)) ≡ elvFlagFault s
+  unfolding elvFlagFault valueFrom
+  flag-fault =
+      let a = first-flag in
+      let b = second-flag in
+      elim (ℕ-discrete (getD s 18 0) 48) [
+        | yes e ↦ elim (decLt 55 (getD s 19 0)) [
+          | yes l ↦ rw (eq-eqb _ _ e, lt-ltb _ _ l, lt-ltb 7 (elvFlags s) (omega (arith, e, l, b .0)))
+          | no l ↦ rw (eq-eqb _ _ e, le-ltb 55 (getD s 19 0) (omega arith), le-ltb 7 (elvFlags s) (omega (arith, e)))
+        ]
+        | no d ↦ rw (ne-eqb _ _ d, lt-ltb 7 (elvFlags s) (omega (arith, a .0, d)))
+      ]
+
+  -- and then it is its second digit
+  pub flags-read : elvFlagFault s ≡ false → getD s 19 0 % 16 ≡ elvFlags s
+  unfolding elvFlagFault valueFrom
+  flags-read e = omega (arith, first-flag, second-flag, ltb-false 7 (elvFlags s) e)
+
+  -- ---- a string that fits its layout
+  pub read-flags : elvFlagFault s ≡ true → readElv s ≡ refused 4
+  unfolding readElv elv
+  read-flags k = read-fitting elv s h ∙ simp k
+
+  pub read-clock : elvFlagFault s ≡ false → (a : Answer ClockTime) → a ≡ checked (clockChecks (sentFields s) false)
+      (sentFields s) → onItsDay a ≡ readElv s
+  unfolding readElv elv elvFields sentFields
+  read-clock k a e =
+      ap onItsDay e ∙ day-checks (sentFields s) (number 2 0 s) refl refl ∙ sym (read-fitting elv s h ∙ simp k)
+
+-- a test that passes for every three flags
+either-way : (Bool → Bool) → Bool
+either-way f = f true && f false
+
+one-way : (f : Bool → Bool) → either-way f ≡ true → (b : Bool) → f b ≡ true
+unfolding either-way
+one-way f h true = both (f true) (f false) h .0
+one-way f h false = both (f true) (f false) h .1
+
+every-flags : (f : Bool → Bool → Bool → Bool) → either-way (λ a. either-way (λ b. either-way (f a b))) ≡ true
+    → (a b c : Bool) → f a b c ≡ true
+every-flags f h a b c =
+    one-way (f a b) (one-way (λ b. either-way (f a b)) (one-way (λ a. either-way (λ b. either-way (f a b))) h a) b) c
+
 pub flagSum-bytes : (a b c : Bool) → boolByte a + 2 * boolByte b + 4 * boolByte c ≡ flagSum a b c
-unfolding flagSum
-flagSum-bytes true true true = refl
-flagSum-bytes true true false = refl
-flagSum-bytes true false true = refl
-flagSum-bytes true false false = refl
-flagSum-bytes false true true = refl
-flagSum-bytes false true false = refl
-flagSum-bytes false false true = refl
-flagSum-bytes false false false = refl
+unfolding flagSum either-way
+flagSum-bytes a b c =
+    eqb-true _ _
+    (every-flags (λ a b c. eqb (boolByte a + 2 * boolByte b + 4 * boolByte c) (flagSum a b c)) refl a b c)
 
 flagSum-back : (n : ℕ) → n < 8 → flagSum (summerIn n) (changeIn n) (unsynchronisedIn n) ≡ n
 unfolding flagSum
@@ -84,7 +141,7 @@ flagSum-back n h =
 
 -- ---- the text of the fields
 pub elv-back : (s : List ℕ) → Accepts elv s → elvText (elvFields s) ≡ s
-unfolding elvText elvFields elvLayout elv elvFlagFault ascii
+unfolding elvText elvFields withWeekday sentFields elvLayout elv elvFlagFault ascii
 elv-back s r =
     let h = r .fits in
     let d = digits-number h in
@@ -100,3 +157,99 @@ elv-back s r =
       d 2 18 (lit≤ tt) refl,
     )
     (restore-fits h)
+
+-- ---- deciding from the clock time
+text-fits : (t : ClockTime) → FitsLayout elvLayout (elvText t)
+unfolding elvLayout elvText ascii digits fitsFrom allowed
+text-fits t = tested-fits elvLayout (elvText t) refl (simp digit-fits)
+
+-- the text's number of flags has two digits, is no fault, and says the flags
+flags-small : (a b c : Bool) → flagSum a b c ≤ 7
+unfolding flagSum either-way
+flags-small a b c = leb-true _ _ (every-flags (λ a b c. leb (flagSum a b c) 7) refl a b c)
+
+summer-said : (a b c : Bool) → summerIn (flagSum a b c) ≡ a
+unfolding flagSum either-way
+summer-said a b c = beq-true _ _ (every-flags (λ a b c. Bool·beq (summerIn (flagSum a b c)) a) refl a b c)
+
+change-said : (a b c : Bool) → changeIn (flagSum a b c) ≡ b
+unfolding flagSum either-way
+change-said a b c = beq-true _ _ (every-flags (λ a b c. Bool·beq (changeIn (flagSum a b c)) b) refl a b c)
+
+unsynchronised-said : (a b c : Bool) → unsynchronisedIn (flagSum a b c) ≡ c
+unfolding flagSum either-way
+unsynchronised-said a b c =
+    beq-true _ _ (every-flags (λ a b c. Bool·beq (unsynchronisedIn (flagSum a b c)) c) refl a b c)
+
+flagsOf : ClockTime → ℕ
+flagsOf t = flagSum (t .«summer_time») (t .«dst_change_announced») (t .unsynchronised)
+
+flags-digits : (t : ClockTime) → value (digits 2 (flagsOf t)) ≡ flagsOf t
+unfolding flagsOf
+flags-digits t =
+    value-digits 2 (flagsOf t)
+    (omega (arith, flags-small (t .«summer_time») (t .«dst_change_announced») (t .unsynchronised)))
+
+fields-carried : (s : List ℕ) → elvCarries (elvFields s) ≡ true
+unfolding elvCarries elvFields withWeekday sentFields
+fields-carried s = simp (eqℤ-refl, eqb-refl)
+
+text-faultless : (t : ClockTime) → elvFlagFault (elvText t) ≡ false
+unfolding elvFlagFault elvText ascii digits flagsOf
+text-faultless t =
+    rw (flags-digits t)
+    (le-ltb 7 (flagsOf t) (flags-small (t .«summer_time») (t .«dst_change_announced») (t .unsynchronised)))
+
+text-says : (t : ClockTime) → isValid t ≡ true → elvCarries t ≡ true → elvFields (elvText t) ≡ t
+unfolding elvCarries elvFields withWeekday sentFields elvText ascii digits sameTime sameFields flagsOf
+text-says t h k =
+    let w = written t h in
+    let zone = eqℤ (elvOffset (t .«summer_time»)) (t .«utc_offset») in
+    let day = eqb (weekdayOrZero (t .year) (t .month) (t .day)) (t .weekday) in
+    let x = both (zone && day && not (t .unverified) && not (t .«leap_second_announced»))
+    (not (t .«alternate_antenna»)) k in
+    let y = both (zone && day && not (t .unverified)) (not (t .«leap_second_announced»)) (x .0) in
+    let z = both (zone && day) (not (t .unverified)) (y .0) in
+    let v = both zone day (z .0) in
+    sameTime-true _ t
+    (simp (
+      w .year,
+      w .month,
+      w .day,
+      w .hour,
+      w .minute,
+      w .second,
+      flags-digits t,
+      summer-said (t .«summer_time») (t .«dst_change_announced») (t .unsynchronised),
+      change-said (t .«summer_time») (t .«dst_change_announced») (t .unsynchronised),
+      unsynchronised-said (t .«summer_time») (t .«dst_change_announced») (t .unsynchronised),
+      v .0,
+      v .1,
+      not-true (t .unverified) (z .1),
+      not-true (t .«leap_second_announced») (y .1),
+      not-true (t .«alternate_antenna») (x .1),
+      eqb-refl,
+      beq-refl,
+      eqℤ-refl,
+    ))
+
+decides : Decides elv elvCarries
+unfolding elv elvFields withWeekday sentFields elvOffset
+decides =
+    record {
+      year = λ s. (number 2 0 s, refl);
+      offset = λ s r. zone-in-range false (summerIn (elvFlags s));
+      carried = λ s r. fields-carried s;
+      fits = λ t h k. text-fits t;
+      flags = λ t h k. text-faultless t;
+      offsets = λ t h k. refl;
+      position = λ t h k. refl;
+      agrees = λ t h k. refl;
+      says = text-says;
+    }
+
+-- the writer's code does as its definition says
+pub writes : (t : ClockTime) {u v : Bool} {bytes : List ℕ} → u ≡ isValid t → v ≡ elvCarries t
+    → bytes ≡ elvText t → (buffer : List ℕ) → writing (u && v) bytes buffer ≡ writeElv t buffer
+unfolding writeElv elv
+writes t h k e buffer = text.writes elv elvCarries decides sameTime-refl sameTime-true t h k e buffer

@@ -9,7 +9,7 @@ use Rattle.clock_time.proofs.SameLaws.{sameTime-refl, sameTime-true}
 use Rattle.calendar.specs.Date.{weekdayOf}
 use Rattle.layout.specs.Accepts.{Accepts}
 use Rattle.layout.proofs.Theorems as text
-use Rattle.elv_dcf7000.specs.Elv.{elvFields, elv, readElv, writeElv}
+use Rattle.elv_dcf7000.specs.Elv.{sentFields, withWeekday, elvFields, elv, readElv, writeElv}
 use Rattle.elv_dcf7000.proofs.ElvLaws.{read-weekday, elv-back}
 
 -- demand 2: acceptance, the fields read, and what is written
@@ -20,5 +20,5 @@ faithful = text.faithful elv elv-back sameTime-refl sameTime-true
 -- the weekday that is read is the one that the calendar has for the date
 pub weekday-read : (s : List ℕ) (t : ClockTime) → readElv s ≡ accepted t
     → weekdayOf (t .year) (t .month) (t .day) ≡ accepted (t .weekday)
-unfolding elvFields
+unfolding elvFields withWeekday sentFields
 weekday-read s t h = let r = faithful .accepted-exactly s t .0 h in rw (r .1) (read-weekday s (r .0))

@@ -1,14 +1,14 @@
 -- The string of an ELV DCF7000 clock, 21 bytes. Assumes nothing.
 use Prim.Native.Nat.{ℕ, _+_, _/_, _%_}
-use mathlib.Core.Bool.{Bool, false, cond}
+use mathlib.Core.Bool.{Bool, false, cond, not, _&&_}
 use mathlib.Core.List.{List, _++_}
 use lib.Dec.{eqb, ltb}
 use lib.IntN.{ℤ, pos}
 use Rattle.clock_time.specs.Errors.{Answer}
-use Rattle.clock_time.specs.Same.{sameTime}
+use Rattle.clock_time.specs.Same.{eqℤ, sameTime}
 use Rattle.clock_time.specs.Writing.{Outcome}
 use Rattle.clock_time.specs.declared.ClockTime.{ClockTime}
-use Rattle.calendar.specs.Date.{fullYear, weekdayNumber, weekdayOf}
+use Rattle.calendar.specs.Date.{fullYear, weekdayOrZero}
 use Rattle.decimal.specs.Decimal.{digits}
 use Rattle.layout.specs.Ascii.{ascii}
 use Rattle.layout.specs.Layout.{digit, places, number}
@@ -21,14 +21,6 @@ elvLayout =
     places 2 digit ++ ascii "-" ++ places 2 digit ++ ascii "-" ++ places 2 digit
     ++ ascii "-" ++ places 2 digit ++ ascii "-" ++ places 2 digit ++ ascii "-" ++ places 2 digit
     ++ ascii "-" ++ places 2 digit ++ ascii "\r"
-
--- "No weekday is sent; it is worked out from the date." (01, Meinberg and ELV strings)
-unfoldable pub elvWeekday : List ℕ → ℕ
-elvWeekday s = weekdayNumber (fullYear (number 2 0 s)) (number 2 3 s) (number 2 6 s)
-
--- the calendar's answer for the date of a string; its number where there is such a date
-unfoldable pub weekdayAnswer : List ℕ → Answer ℕ
-weekdayAnswer s = weekdayOf (fullYear (number 2 0 s)) (number 2 3 s) (number 2 6 s)
 
 -- "FF is 00..07, else 4" (01, Meinberg and ELV strings); where one of its bytes is no digit, that is 3
 abbrev pub elvFlags : List ℕ → ℕ
@@ -50,13 +42,14 @@ unsynchronisedIn flags = eqb (flags / 4 % 2) 1
 unfoldable pub elvOffset : Bool → ℤ
 elvOffset summer = cond summer (pos 120) (pos 60)
 
-unfoldable pub elvFields : List ℕ → ClockTime
-elvFields s =
+-- the fields that are sent, with Monday for a weekday
+unfoldable pub sentFields : List ℕ → ClockTime
+sentFields s =
     record {
       year = fullYear (number 2 0 s);
       month = number 2 3 s;
       day = number 2 6 s;
-      weekday = elvWeekday s;
+      weekday = 1;
       hour = number 2 9 s;
       minute = number 2 12 s;
       second = number 2 15 s;
@@ -68,6 +61,30 @@ elvFields s =
       «leap_second_announced» = false;
       «alternate_antenna» = false;
     }
+
+-- "No weekday is sent; it is worked out from the date." (01, Meinberg and ELV strings): a clock time with the weekday of
+-- its date in place of its own
+unfoldable pub withWeekday : ClockTime → ClockTime
+withWeekday t =
+    record {
+      year = t .year;
+      month = t .month;
+      day = t .day;
+      weekday = weekdayOrZero (t .year) (t .month) (t .day);
+      hour = t .hour;
+      minute = t .minute;
+      second = t .second;
+      «utc_offset» = t .«utc_offset»;
+      unsynchronised = t .unsynchronised;
+      unverified = t .unverified;
+      «summer_time» = t .«summer_time»;
+      «dst_change_announced» = t .«dst_change_announced»;
+      «leap_second_announced» = t .«leap_second_announced»;
+      «alternate_antenna» = t .«alternate_antenna»;
+    }
+
+unfoldable pub elvFields : List ℕ → ClockTime
+elvFields s = withWeekday (sentFields s)
 
 -- FF: the values of the flags that are set, added up
 unfoldable pub flagSum : Bool → Bool → Bool → ℕ
@@ -82,6 +99,15 @@ lineOf t flags =
 
 unfoldable pub elvText : ClockTime → List ℕ
 elvText t = lineOf t (flagSum (t .«summer_time») (t .«dst_change_announced») (t .unsynchronised))
+
+-- the clock times that an ELV string can say, the rest of a reading being as it is
+unfoldable pub elvCarries : ClockTime → Bool
+elvCarries t =
+    eqℤ (elvOffset (t .«summer_time»)) (t .«utc_offset»)
+    && eqb (weekdayOrZero (t .year) (t .month) (t .day)) (t .weekday)
+    && not (t .unverified)
+    && not (t .«leap_second_announced»)
+    && not (t .«alternate_antenna»)
 
 unfoldable pub elv : Format ClockTime
 elv =

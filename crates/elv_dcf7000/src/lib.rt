@@ -1,20 +1,18 @@
 // The string of an ELV DCF7000 clock.
-use calendar::date::DateAnswer;
 use clock_time::ClockTime;
 use clock_time::Error;
 use clock_time::WriteAnswer;
 use layout::ReadAnswer;
 use layout::words;
 ghost use mathlib.Core.Path.{_≡_};
-ghost use mathlib.Core.Bool.{true};
+ghost use mathlib.Core.Bool.{true, false};
 ghost use lib.ListN.{length};
 ghost use Rattle.clock_time.specs.Writing.{outcome};
 ghost use Rattle.clock_time.specs.Errors.{errorNumber};
 ghost use Rattle.layout.specs.Layout.{FitsLayout, fitsFrom, layoutError};
 ghost use Rattle.layout.specs.Text.{readAnswer};
-ghost use Rattle.calendar.specs.Date.{dateAnswer};
-ghost use Rattle.elv_dcf7000.specs.Elv.{elvLayout, weekdayAnswer, elvWeekday, elvFlags, elvOffset, elvFields};
-ghost use Rattle.elv_dcf7000.specs.Elv.{readElv, flagSum, lineOf, elvText, writeElv};
+ghost use Rattle.elv_dcf7000.specs.Elv.{elvLayout, elvFlagFault, elvOffset, sentFields, withWeekday, readElv};
+ghost use Rattle.elv_dcf7000.specs.Elv.{flagSum, lineOf, elvText, elvCarries, writeElv};
 
 // The layout, as the definition `elvLayout` has it.
 const D: u32 = 256;
@@ -70,36 +68,28 @@ fn offset_of(summer: bool) -> i16
     if summer { 120 } else { 60 }
 }
 
-// The number of the flags.
-fn flags_of(s: &[u8]) -> u8
+// Whether the number of the flags is above 7.
+fn has_flag_fault(s: &[u8]) -> bool
     requires { ⌜ (length (now s) ≡ 21) × FitsLayout elvLayout (now s) ⌝ }
-    ensures { λ r. ⌜ r ≡ elvFlags (now (s .entry)) ⌝ }
+    ensures { λ r. ⌜ r ≡ elvFlagFault (now (s .entry)) ⌝ }
 {
-    10 * (s[18] % 16) + s[19] % 16
+    (s[18] != b'0') | (b'7' < s[19])
 }
 
-// The weekday of the date, or 5.
-fn weekday_of(s: &[u8]) -> DateAnswer
-    requires { ⌜ FitsLayout elvLayout (now s) ⌝ }
-    ensures { λ r. ⌜ dateAnswer r ≡ weekdayAnswer (now (s .entry)) ⌝ }
-{
-    let date = words::numbers_at(s, 0);
-    let year = calendar::date::full_year(date.first);
-    calendar::date::weekday_of(year, date.second, date.third)
-}
-
-fn fields(s: &[u8], flags: u8, weekday: u8) -> ClockTime
-    requires { ⌜ FitsLayout elvLayout (now s) × ((flags ≡ elvFlags (now s)) × (weekday ≡ elvWeekday (now s))) ⌝ }
-    ensures { λ r. ⌜ r ≡ elvFields (now (s .entry)) ⌝ }
+// The fields that are sent, and Monday.
+fn sent_fields(s: &[u8]) -> ClockTime
+    requires { ⌜ (length (now s) ≡ 21) × (FitsLayout elvLayout (now s) × (elvFlagFault (now s) ≡ false)) ⌝ }
+    ensures { λ r. ⌜ r ≡ sentFields (now (s .entry)) ⌝ }
 {
     let date = words::numbers_at(s, 0);
     let time = words::numbers_at(s, 9);
+    let flags = s[19] % 16;
     let summer = flags % 2 == 1;
     ClockTime {
         year: calendar::date::full_year(date.first),
         month: date.second,
         day: date.third,
-        weekday: weekday,
+        weekday: 1,
         hour: time.first,
         minute: time.second,
         second: time.third,
@@ -113,18 +103,39 @@ fn fields(s: &[u8], flags: u8, weekday: u8) -> ClockTime
     }
 }
 
-// Reads a string that fits its layout. Only a date that exists has a weekday, so it is the date that is checked first.
+// The clock time with the weekday of its date.
+fn with_weekday(t: ClockTime) -> ClockTime
+    ensures { λ r. ⌜ r ≡ withWeekday t ⌝ }
+{
+    ClockTime {
+        year: t.year,
+        month: t.month,
+        day: t.day,
+        weekday: calendar::date::weekday_number(t.year, t.month, t.day),
+        hour: t.hour,
+        minute: t.minute,
+        second: t.second,
+        utc_offset: t.utc_offset,
+        unsynchronised: t.unsynchronised,
+        unverified: t.unverified,
+        summer_time: t.summer_time,
+        dst_change_announced: t.dst_change_announced,
+        leap_second_announced: t.leap_second_announced,
+        alternate_antenna: t.alternate_antenna,
+    }
+}
+
+// Reads a string that fits its layout. Its weekday is worked out only of a date that was found to exist.
 fn read_fitting(s: &[u8]) -> ReadAnswer
     requires { ⌜ (length (now s) ≡ 21) × FitsLayout elvLayout (now s) ⌝ }
     ensures { λ r. ⌜ readAnswer r ≡ readElv (now (s .entry)) ⌝ }
 {
-    let flags = flags_of(s);
-    if 7 < flags {
+    if has_flag_fault(s) {
         return ReadAnswer::Refused(Error::FlagLetter);
     }
-    match weekday_of(s) {
-        DateAnswer::Number(weekday) => layout::check_clock(fields(s, flags, weekday as u8), false),
-        DateAnswer::Refused(e) => ReadAnswer::Refused(e),
+    match layout::check_clock(sent_fields(s), false) {
+        ReadAnswer::Read(t) => ReadAnswer::Read(with_weekday(t)),
+        ReadAnswer::Refused(e) => ReadAnswer::Refused(e),
     }
 }
 
@@ -183,12 +194,21 @@ fn line_of(t: ClockTime) -> [u8; 21]
     line_with(t, flags)
 }
 
+// Whether an ELV string can say what `t` says.
+fn is_carried(t: ClockTime) -> bool
+    ensures { λ r. ⌜ r ≡ elvCarries t ⌝ }
+{
+    let zone = clock_time::same_offset(offset_of(t.summer_time), t.utc_offset);
+    let weekday = calendar::date::weekday_number(t.year, t.month, t.day);
+    zone & (weekday == t.weekday) & !t.unverified & !t.leap_second_announced & !t.alternate_antenna
+}
+
 // Writes a clock time as an ELV DCF7000 string to the front of `out`: 23 where no such string is read as it, 20 where
 // there is no room for 21 bytes.
 pub fn write_elv(t: ClockTime, out: &mut [u8]) -> WriteAnswer
     ensures { λ r. ⌜ outcome r (now (out .exit)) ≡ writeElv t (now (out .entry)) ⌝ }
 {
     let line = line_of(t);
-    let readable = layout::is_read_as(read_elv(&line), t);
+    let readable = calendar::unix_time::is_valid(t) & is_carried(t);
     clock_time::write_bytes(readable, &line, out)
 }

@@ -1,46 +1,38 @@
 -- `elv_dcf7000::read_fitting` meets its contract. Assumes nothing.
 use borrow.Author.Needs.{needs}
-use native.Mathlib.Omega.{arith}
-use mathlib.Core.Path.{sym, _∙_}
-use mir.Syntax.{w8}
-use borrow.Author.Needs.{fits-under}
-use Rattle.elv_dcf7000.proofs.ElvLaws.{weekday-answered, weekday-small, read-flags, read-clock, read-date}
+use mathlib.Core.Path.{_≡_, sym, _∙_}
+use mathlib.Core.Bool.{false}
+use denote.Ref.{now}
+use Rattle.elv_dcf7000.specs.Elv.{elvFlagFault}
+use Rattle.elv_dcf7000.proofs.ElvLaws.{read-flags, read-clock}
 use Rattle.elv_dcf7000.proofs.read_fitting.Statement.{statement}
 use Rattle.elv_dcf7000.proofs.read_fitting.Tie as tie
 
+faultless : (c : tie.Else1) → elvFlagFault (now (c .before .before .before .args .s)) ≡ false
+faultless c = sym (c .before .has-flag-fault .ensures) ∙ c .if1 .left
+
 returns : tie.Need-returns
 returns c =
-    let b = c .before in
-    sym (read-flags (b .before .before .pre .1) (omega (arith, b .flags-of .ensures, c .if1 .taken)))
+    let f = c .before in
+    sym (read-flags (f .before .before .pre .1) (sym (f .has-flag-fault .ensures) ∙ c .if1 .taken))
 
-cast-fields : tie.Need-cast-fields
-cast-fields c =
-    let b = c .before in
-    let answer = rw (b .weekday .given .1) at (b .before .before .weekday-of .ensures) in
-    fits-under w8 _ 8 (weekday-small _ _ answer) tt
-
-fields-requires : tie.Need-fields-requires
-fields-requires c κs =
-    let b = c .before in
-    let w = b .before .before in
-    let answer = rw (b .weekday .given .1) at (w .weekday-of .ensures) in
-    let i = w .before .before in
-    (i .before .before .pre .1, (i .flags-of .ensures, weekday-answered _ _ answer))
+sent-fields-requires : tie.Need-sent-fields-requires
+sent-fields-requires c κs = let p = c .before .before .before .pre in (p .0, (p .1, faultless c))
 
 returns-2 : tie.Need-returns-2
 returns-2 c =
-    let i = c .before .before .before .before .before .before in
-    let few = rw (i .before .flags-of .ensures) at (i .if1 .left) in
-    rw (c .before .fields .ensures) at (c .check-clock .ensures)
-    ∙ sym (read-clock (i .before .before .before .pre .1) few)
+    let k = c .before .before .before .before in
+    let f = k .before in
+    let checked-is = rw (f .sent-fields .ensures, c .before .before .t .given .1) at (k .check-clock .ensures) in
+    rw (c .with-weekday .ensures)
+    (read-clock (f .before .before .before .before .pre .1) (faultless (f .before)) _ checked-is)
 
 returns-3 : tie.Need-returns-3
 returns-3 c =
-    let w = c .before .before .before in
-    let i = w .before in
-    let few = rw (i .before .flags-of .ensures) at (i .if1 .left) in
-    let answer = rw (c .before .e .given .1) at (w .weekday-of .ensures) in
-    sym (read-date (i .before .before .before .pre .1) few _ answer)
+    let k = c .before .before .before in
+    let f = k .before in
+    let checked-is = rw (f .sent-fields .ensures, c .before .e .given .1) at (k .check-clock .ensures) in
+    read-clock (f .before .before .before .before .pre .1) (faultless (f .before)) _ checked-is
 
 pub read-fitting-spec : {M : Type 1} → statement M
 read-fitting-spec =
@@ -48,10 +40,9 @@ read-fitting-spec =
     (tie.spec
     (λ c κs. search needs)
     returns
+    sent-fields-requires
     (λ c κs. search needs)
     (λ c. search needs)
-    cast-fields
-    fields-requires
     (λ c κs. search needs)
     (λ c. search needs)
     returns-2

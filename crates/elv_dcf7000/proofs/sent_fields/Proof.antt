@@ -1,4 +1,4 @@
--- `elv_dcf7000::fields` meets its contract. Assumes nothing.
+-- `elv_dcf7000::sent_fields` meets its contract. Assumes nothing.
 use borrow.Author.Needs.{needs, sfits-of}
 use mathlib.Core.Path.{refl}
 use lib.Dec.{lit≤}
@@ -7,18 +7,19 @@ use mir.Val.{SFits}
 use mir.Facts.{toZ-ofZ}
 use Rattle.layout.specs.Ascii.{ascii}
 use Rattle.layout.proofs.PairLaws.{numbers-fit}
-use Rattle.elv_dcf7000.specs.Elv.{elvLayout, elvFields}
-use Rattle.elv_dcf7000.proofs.fields.Statement.{statement}
-use Rattle.elv_dcf7000.proofs.fields.Tie as tie
+use Rattle.elv_dcf7000.specs.Elv.{elvLayout, sentFields}
+use Rattle.elv_dcf7000.proofs.ElvLaws.{flags-read}
+use Rattle.elv_dcf7000.proofs.sent_fields.Statement.{statement}
+use Rattle.elv_dcf7000.proofs.sent_fields.Tie as tie
 
 returns : tie.Need-returns
-unfolding elvFields elvLayout ascii
+unfolding sentFields elvLayout ascii
 returns c =
     let y = c .before in
-    let time = y .before in
+    let time = y .before .before in
     let date = time .before in
     let start = date .before .before in
-    let h = start .pre .0 in
+    let h = start .pre .1 .0 in
     let f : SFits w16 (c .offset-of .result) = search sfits-of in
     rw (toZ-ofZ f)
     (simp (
@@ -26,18 +27,18 @@ returns c =
       y .full-year .ensures,
       time .numbers-at2 .ensures,
       date .numbers-at .ensures,
-      start .pre .1 .0,
-      start .pre .1 .1,
+      flags-read h (start .pre .1 .1),
       numbers-fit h 0 (lit≤ tt) refl refl refl,
       numbers-fit h 9 (lit≤ tt) refl refl refl,
     ))
 
-pub fields-spec : {M : Type 1} → statement M
-fields-spec =
+pub sent-fields-spec : {M : Type 1} → statement M
+sent-fields-spec =
     tie.close
     (tie.spec
     (λ c κs. search needs)
     (λ c κs. search needs)
+    (λ c. search needs)
     (λ c κs. search needs)
     (λ c κs. search needs)
     returns)

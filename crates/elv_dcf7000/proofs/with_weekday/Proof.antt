@@ -1,0 +1,21 @@
+-- `elv_dcf7000::with_weekday` meets its contract. Assumes nothing.
+use borrow.Author.Needs.{needs, sfits-of}
+use mir.Syntax.{w16}
+use mir.Val.{SFits}
+use mir.Facts.{toZ-ofZ}
+use Rattle.elv_dcf7000.specs.Elv.{withWeekday}
+use Rattle.elv_dcf7000.proofs.with_weekday.Statement.{statement}
+use Rattle.elv_dcf7000.proofs.with_weekday.Tie as tie
+
+offset-fits : (c : tie.Start) → SFits w16 (c .args .t .«utc_offset»)
+offset-fits c = search sfits-of
+
+returns : tie.Need-returns
+unfolding withWeekday
+returns c =
+    let day = c .before in
+    rw (toZ-ofZ (offset-fits (day .before))) (simp (day .weekday-number .ensures))
+
+pub with-weekday-spec : {M : Type 1} → statement M
+with-weekday-spec =
+    tie.close (tie.spec (λ c κs. search needs) returns)

@@ -28,6 +28,7 @@ dateExists year month day = leb 1 day && leb day (daysInMonth year month)
 abbrev pub firstYear : ℕ
 firstYear = 1970
 
+-- the one of these hundred years that ends in two digits
 unfoldable pub fullYear : ℕ → ℕ
 fullYear digits = firstYear + (digits + 100 - firstYear % 100) % 100
 
@@ -35,6 +36,7 @@ fullYear digits = firstYear + (digits + 100 - firstYear % 100) % 100
 unfoldable pub knownDate : ℕ → ℕ → ℕ → Bool
 knownDate year month day = leb firstYear year && leb year (firstYear + 99) && dateExists year month day
 
+-- the numbers of a list, added up
 abbrev pub sum : List ℕ → ℕ
 sum [] = 0
 sum (n ∷ ns) = n + sum ns
@@ -44,6 +46,7 @@ unfoldable pub daysOfYears : ℕ → ℕ → ℕ
 daysOfYears year zero = 0
 daysOfYears year (suc count) = sum (monthLengths (isLeapYear year)) + daysOfYears (suc year) count
 
+-- the days of a year's months before one of them
 unfoldable pub daysBeforeMonth : ℕ → ℕ → ℕ
 daysBeforeMonth year month = sum (take (month - 1) (monthLengths (isLeapYear year)))
 
@@ -67,6 +70,7 @@ weekdayOf year month day = checked (given 5 (not (knownDate year month day)) ∷
 unfoldable pub weekdayOrZero : ℕ → ℕ → ℕ → ℕ
 weekdayOrZero year month day = cond (knownDate year month day) (weekdayNumber year month day) 0
 
+-- the function's answer: a number, or a refusal with the error's number
 abbrev pub dateAnswer : DateAnswer → Answer ℕ
 dateAnswer (Number n) = accepted n
 dateAnswer (Refused e) = refused (errorNumber e)

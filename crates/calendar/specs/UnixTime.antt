@@ -36,6 +36,7 @@ instantOf t =
 unfoldable pub unixTime : ClockTime → Answer ℤ
 unixTime t = checked (given 23 (not (isValid t)) ∷ []) (instantOf t)
 
+-- the function's answer: an instant, or a refusal with the error's number
 abbrev pub unixTimeAnswer : UnixTime → Answer ℤ
 unixTimeAnswer (At z) = accepted z
 unixTimeAnswer (Refused e) = refused (errorNumber e)

@@ -69,6 +69,7 @@ pub record Check : Type 0 where
   pub number : ℕ
   pub fails : Bool
 
+-- the line with this number, and whether it holds
 abbrev pub given : ℕ → Bool → Check
 given n b = record { number = n; fails = b }
 

@@ -6,6 +6,7 @@ use lib.IntN.{ℤ, pos, negsuc}
 use Rattle.clock_time.specs.declared.ClockTime.{ClockTime}
 use Rattle.clock_time.specs.declared.Position.{Position}
 
+-- two signed numbers are the same
 unfoldable pub eqℤ : ℤ → ℤ → Bool
 eqℤ (pos m) (pos n) = eqb m n
 eqℤ (pos m) (negsuc n) = false
@@ -29,8 +30,10 @@ sameFields a b =
     && Bool·beq (a .«leap_second_announced») (b .«leap_second_announced»)
     && Bool·beq (a .«alternate_antenna») (b .«alternate_antenna»)
 
+-- two clock times are the same, the offset included
 unfoldable pub sameTime : ClockTime → ClockTime → Bool
 sameTime a b = sameFields a b && eqℤ (a .«utc_offset») (b .«utc_offset»)
 
+-- two positions are the same
 unfoldable pub samePosition : Position → Position → Bool
 samePosition a b = eqℤ (a .latitude) (b .latitude) && eqℤ (a .longitude) (b .longitude) && eqb (a .height) (b .height)

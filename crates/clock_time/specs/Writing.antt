@@ -9,6 +9,7 @@ use Rattle.clock_time.specs.Exit.{Exit, exit, leaves}
 use Rattle.clock_time.specs.declared.WriteAnswer.{WriteAnswer}
 use Rattle.clock_time.specs.declared.WriteAnswer.the-variants.{Written, Refused}
 
+-- a writer's answer: how many places it filled, or a refusal with the error's number
 abbrev pub writeAnswer : WriteAnswer → Answer ℕ
 writeAnswer (Written n) = accepted n
 writeAnswer (Refused e) = refused (errorNumber e)
@@ -17,6 +18,7 @@ writeAnswer (Refused e) = refused (errorNumber e)
 abbrev pub Outcome : Type 0
 Outcome = Exit ℕ (List ℕ)
 
+-- the answer of a writer and the buffer at exit, as one value
 abbrev pub outcome : WriteAnswer → List ℕ → Outcome
 outcome r buffer = exit (writeAnswer r) buffer
 
@@ -37,5 +39,6 @@ isAccepted same (refused k) a = false
 unfoldable pub readsBack : {A : Type 0} → (List ℕ → Answer A) → (A → List ℕ) → (A → A → Bool) → A → Bool
 readsBack read text same a = isAccepted same (read (text a)) a
 
+-- a writer that makes the only candidate, and writes it if it is read as the value
 unfoldable pub writeBack : {A : Type 0} → (List ℕ → Answer A) → (A → List ℕ) → (A → A → Bool) → A → List ℕ → Outcome
 writeBack read text same a buffer = writing (readsBack read text same a) (text a) buffer

@@ -9,6 +9,7 @@ use lib.ListN.{getD}
 abbrev pub long : ℕ → List ℕ → Bool
 long at m = eqb (getD m at 0) 1
 
+-- the mark at a place is short
 abbrev pub short : ℕ → List ℕ → Bool
 short at m = eqb (getD m at 0) 0
 

@@ -126,5 +126,6 @@ outcomeNumber (accepted a) =
     + 16 * mark (a .detail .sixty) + 8 * mark (eqℤ (t .«utc_offset») (pos 120))
     + 4 * mark (t .«alternate_antenna») + 2 * mark (t .«dst_change_announced») + mark (t .«leap_second_announced»)
 
+-- the number of a run of marks
 unfoldable pub runNumber : List ℕ → ℕ
 runNumber m = outcomeNumber (readMinute m)

@@ -23,6 +23,7 @@ unfoldable pub valueFrom : ℕ → List ℕ → ℕ
 valueFrom n [] = n
 valueFrom n (b ∷ s) = valueFrom (10 * n + (b - 48)) s
 
+-- the number that digits stand for
 abbrev pub value : List ℕ → ℕ
 value s = valueFrom 0 s
 
@@ -44,6 +45,7 @@ readDigits s =
     (cond (ltb (firstNonDigit s) (length s)) (record { answer = refused 3; place = firstNonDigit s })
     (record { answer = accepted (value s); place = 0 }))
 
+-- the function's answer, with the place of the byte that offends
 abbrev pub digitsAnswer : DigitsRead → Placed
 digitsAnswer (Number n) = record { answer = accepted n; place = 0 }
 digitsAnswer (NotDigit i) = record { answer = refused 3; place = i }

@@ -58,6 +58,7 @@ linesAs Elv s = textChecks elv s
 abbrev pub writerLines : Bool → List ℕ → List ℕ → List Check
 writerLines readable bytes d = given 23 (not readable) ∷ given 20 (ltb (length d) (length bytes)) ∷ []
 
+-- the lines of a string's writer
 abbrev pub textLines : {A : Type 0} → Format A → A → List ℕ → List Check
 textLines f a d = writerLines (readsBack (readText f) (f .text) (f .same) a) (f .text a) d
 
@@ -66,14 +67,17 @@ abbrev pub gapLines : List ℕ → ℕ → Option ℕ → List Check
 gapLines marks place none = given 10 true ∷ minuteChecks []
 gapLines marks place (some earlier) = given 10 false ∷ minuteChecks (runBetween marks earlier place)
 
+-- what the marks since the nearest earlier gap would say
 abbrev pub gapMinute : List ℕ → ℕ → Option ℕ → MinuteTime
 gapMinute marks place none = minuteFields []
 gapMinute marks place (some earlier) = minuteFields (runBetween marks earlier place)
 
+-- the answer at a gap: its lines in their order, and then the minute
 abbrev pub gapAnswer : List ℕ → ℕ → Answer MinuteTime
 gapAnswer marks place =
     checked (gapLines marks place (gapBefore marks place)) (gapMinute marks place (gapBefore marks place))
 
+-- demand 1, entry by entry: its lines and their order, and what a refusal leaves
 pub record Demand1 : Type 0 where
   -- reading strings, and telling their kind: "any other length is refused with 1" (01, Meinberg and ELV strings)
   pub read-standard : (s : List ℕ) → Ordered (linesAs Standard s) textOrder (readStandard s)

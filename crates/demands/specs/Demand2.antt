@@ -8,6 +8,7 @@ use Rattle.elv_dcf7000.specs.Elv.{elv, elvFields, readElv, writeElv}
 use Rattle.dcf77.specs.Accepts.{AcceptsMinute}
 use Rattle.dcf77.specs.Minute.{minuteFields, readMinute, writeMinute}
 
+-- demand 2, format by format
 pub record Demand2 : Type 0 where
   pub meinberg-standard : Faithful (Accepts standard) standardFields readStandard writeStandard
   pub meinberg-pzf : Faithful (Accepts pzf) pzfFields readPzf writePzf

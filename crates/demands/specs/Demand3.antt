@@ -11,6 +11,7 @@ use Rattle.recording.specs.Demand.{Corrected}
 use Rattle.recording.specs.Gaps.{FirstGapAfter}
 use Rattle.recording.specs.Recording.{recorded, correctMark}
 
+-- demand 3: what a correction leaves, and when it is refused
 pub record Demand3 : Type 0 where
   -- "Whatever tape and sheet are lent, and whichever place and new mark are named, this holds after a correction that
   -- isn't refused." (demand 3): `Corrected` has a named part for each of its sentences

@@ -34,6 +34,7 @@ pub record Ordered {A : Type 0} (lines : List Check) (order : List ℕ) (answer 
 abbrev pub Kept : {A M : Type 0} → M → Exit A M → Type 0
 Kept old e = (n : ℕ) → e .answer ≡ refused n → e .memory ≡ old
 
+-- an answer by lines in their order, with a refusal that leaves the memory as it was
 pub record Lent {A M : Type 0} (lines : List Check) (order : List ℕ) (old : M) (e : Exit A M) : Type 0 where
   pub ordered : Ordered lines order (e .answer)
   pub kept : Kept old e

@@ -26,6 +26,7 @@ elvLayout =
 abbrev pub elvFlags : List ℕ → ℕ
 elvFlags s = number 2 18 s
 
+-- FF is above 07
 unfoldable pub elvFlagFault : List ℕ → Bool
 elvFlagFault s = ltb 7 (elvFlags s)
 
@@ -33,12 +34,15 @@ elvFlagFault s = ltb 7 (elvFlags s)
 abbrev pub summerIn : ℕ → Bool
 summerIn flags = eqb (flags % 2) 1
 
+-- 2 is among the values that FF adds up
 abbrev pub changeIn : ℕ → Bool
 changeIn flags = eqb (flags / 2 % 2) 1
 
+-- 4 is among the values that FF adds up
 abbrev pub unsynchronisedIn : ℕ → Bool
 unsynchronisedIn flags = eqb (flags / 4 % 2) 1
 
+-- the offset with and without summer time
 unfoldable pub elvOffset : Bool → ℤ
 elvOffset summer = cond summer (pos 120) (pos 60)
 
@@ -83,6 +87,7 @@ withWeekday t =
       «alternate_antenna» = t .«alternate_antenna»;
     }
 
+-- what a string says: the fields that are sent, and the weekday of their date
 unfoldable pub elvFields : List ℕ → ClockTime
 elvFields s = withWeekday (sentFields s)
 
@@ -97,6 +102,7 @@ lineOf t flags =
     ++ ascii "-" ++ digits 2 (t .hour) ++ ascii "-" ++ digits 2 (t .minute) ++ ascii "-" ++ digits 2 (t .second)
     ++ ascii "-" ++ digits 2 flags ++ ascii "\r"
 
+-- the only string that could be read as a clock time
 unfoldable pub elvText : ClockTime → List ℕ
 elvText t = lineOf t (flagSum (t .«summer_time») (t .«dst_change_announced») (t .unsynchronised))
 
@@ -109,6 +115,7 @@ elvCarries t =
     && not (t .«leap_second_announced»)
     && not (t .«alternate_antenna»)
 
+-- the format: its only fault beyond the shared ones is FF above 07
 unfoldable pub elv : Format ClockTime
 elv =
     record {
@@ -123,8 +130,10 @@ elv =
       same = sameTime;
     }
 
+-- the reader, by the rule for every time string
 unfoldable pub readElv : List ℕ → Answer ClockTime
 readElv s = readText elv s
 
+-- the writer, by the rule for every time string
 unfoldable pub writeElv : ClockTime → List ℕ → Outcome
 writeElv t buffer = writeText elv t buffer

@@ -39,6 +39,7 @@ Holds (run m answer number) = (readMinute m ≡ answer) × (runNumber m ≡ numb
 Holds (outcomes m o) = fillOutcomes m (replicate (length m) 7) ≡ filling FillAnswer.Filled o
 Holds (corrected m o place mark answer m′ o′) = correctMark m o place mark ≡ correction answer m′ o′
 
+-- every example of a table holds
 abbrev pub AllHold : List Example → Type 0
 AllHold [] = Unit {0}
 AllHold (x ∷ xs) = Holds x × AllHold xs
@@ -89,9 +90,11 @@ marks3 =
     ++ (0 ∷ 0 ∷ 1 ∷ 0 ∷ 1 ∷ 0 ∷ 0 ∷ [])
     ++ (0 ∷ 0 ∷ 0 ∷ 1 ∷ 0 ∷ 0 ∷ 1 ∷ 1 ∷ 0 ∷ 1 ∷ 0 ∷ 0 ∷ 0 ∷ 1 ∷ 0 ∷ 1 ∷ 1 ∷ 0 ∷ 0 ∷ 0 ∷ 0 ∷ 0 ∷ 1 ∷ [])
 
+-- what P3 reads
 abbrev pub minute3 : MinuteTime
 minute3 = record { time = clockTime 2006 11 8 3 14 39 0 (pos 60); detail = record { marks = 0; sixty = false } }
 
+-- P3
 abbrev pub p3 : Example
 p3 = run marks3 (accepted minute3) 620265028
 
@@ -99,9 +102,11 @@ p3 = run marks3 (accepted minute3) 620265028
 abbrev pub marks4 : List ℕ
 marks4 = 2 ∷ marks3 ++ (2 ∷ [])
 
+-- the outcomes of P4
 abbrev pub outcomes4 : List ℕ
 outcomes4 = 10 ∷ replicate 59 0 ++ (620265028 ∷ [])
 
+-- P4
 abbrev pub p4 : Example
 p4 = outcomes marks4 outcomes4
 
@@ -134,5 +139,6 @@ p10 = run (set marks3 28 1) (refused 15) 15
 abbrev pub p11 : Example
 p11 = run (marks3 ++ (0 ∷ [])) (refused 19) 19
 
+-- P1 to P11
 abbrev pub examples : List Example
 examples = p1 ∷ p2 ∷ p3 ∷ p4 ∷ p5 ∷ p6 ∷ p7 ∷ p8 ∷ p9 ∷ p10 ∷ p11 ∷ []

@@ -12,9 +12,11 @@ pub record Feeding : Type 0 where
   pub answer : FeedAnswer
   pub taken : ℕ
 
+-- what a feed comes to: the state, the answer, and how many bytes it took
 abbrev pub feeding : Framer → FeedAnswer → ℕ → Feeding
 feeding f a n = record { framer = f; answer = a; taken = n }
 
+-- the function's result as such
 abbrev pub fed : Fed → Feeding
 fed r = feeding (r .framer) (answerOf (r .event)) (r .taken)
 

@@ -10,6 +10,7 @@ use Rattle.framing.specs.declared.single.Moved.{Moved}
 use Rattle.framing.specs.Step.{Stepped, nothingYet, outcome, answerOf, framerOf, stepOf}
 use Rattle.framing.specs.Feed.{later, feedOf}
 
+-- the result of a run of bytes, with the bytes kept beside it
 abbrev pub moved : List ℕ → Moved → Stepped
 moved bytes m = outcome (framerOf bytes (m .count) (m .mode)) (answerOf (m .event))
 

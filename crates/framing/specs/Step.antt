@@ -18,11 +18,13 @@ pub data FeedAnswer : Type 0 where
   complete : ℕ → FeedAnswer
   dropped : FeedAnswer
 
+-- the function's event as an answer
 abbrev pub answerOf : Event → FeedAnswer
 answerOf Nothing = nothingYet
 answerOf (Complete n) = complete n
 answerOf Dropped = dropped
 
+-- a state from its parts
 abbrev pub framerOf : List ℕ → ℕ → Mode → Framer
 framerOf bytes count mode = record { bytes = bytes; count = count; mode = mode }
 
@@ -35,9 +37,11 @@ pub record Stepped : Type 0 where
   pub framer : Framer
   pub answer : FeedAnswer
 
+-- what a step comes to: the state and the answer
 abbrev pub outcome : Framer → FeedAnswer → Stepped
 outcome f a = record { framer = f; answer = a }
 
+-- the function's result as such
 abbrev pub stepped : Step → Stepped
 stepped r = outcome (r .framer) (answerOf (r .event))
 
@@ -51,6 +55,7 @@ whenInside Overlong room = Overlong
 unfoldable pub placeOf : ℕ → Mode → Mode
 placeOf count mode = cond (ltb 66 count) Outside (whenInside mode (cond (ltb count 66) Inside Overlong))
 
+-- the state in another mode
 abbrev pub inMode : Framer → Mode → Framer
 inMode f mode = framerOf (f .bytes) (f .count) mode
 

@@ -5,6 +5,7 @@ use Prim.Native.Char.{code}
 use mathlib.Core.List as lists
 use mathlib.Core.List.{List}
 
+-- a text's bytes, one for each character
 unfoldable pub ascii : String → List ℕ
 ascii [] = lists.[]
 ascii (c ∷ s) = lists._∷_ (code c) (ascii s)

@@ -14,12 +14,15 @@ use Rattle.decimal.specs.Decimal.{isDigit, value}
 abbrev pub digit : ℕ
 digit = 256
 
+-- the place of any byte
 abbrev pub free : ℕ
 free = 257
 
+-- the place of a flag
 abbrev pub flag : Char → ℕ
 flag a = 512 + code a
 
+-- the place of a flag with two letters
 abbrev pub either : Char → Char → ℕ
 either a b = 65536 + 256 * code a + code b
 
@@ -61,6 +64,7 @@ first k [] s = 0
 first k (p ∷ l) [] = suc (length l)
 first k (p ∷ l) (b ∷ s) = cond (eqb (offence p b) k) 0 (suc (first k l s))
 
+-- some place has the number k
 abbrev pub found : ℕ → List ℕ → List ℕ → Bool
 found k l s = ltb (first k l s) (length l)
 

@@ -46,9 +46,11 @@ textChecks f s =
     ∷ given 9 (f .positionFault s)
     ∷ clockChecks (f .clock (f .fields s)) (f .mismatch s)
 
+-- the reader of any format: its checks in their order, and then what its fields say
 unfoldable pub readText : {A : Type 0} → Format A → List ℕ → Answer A
 readText f s = checked (textChecks f s) (f .fields s)
 
+-- the writer of any format
 unfoldable pub writeText : {A : Type 0} → Format A → A → List ℕ → Outcome
 writeText f a buffer = writeBack (readText f) (f .text) (f .same) a buffer
 
@@ -56,6 +58,7 @@ writeText f a buffer = writeBack (readText f) (f .text) (f .same) a buffer
 abbrev pub letter : Bool → Char → ℕ
 letter on c = cond on (code c) 32
 
+-- a reader's answer: a clock time, or a refusal with the error's number
 abbrev pub readAnswer : ReadAnswer → Answer ClockTime
 readAnswer (Read t) = accepted t
 readAnswer (Refused e) = refused (errorNumber e)

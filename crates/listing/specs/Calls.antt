@@ -9,6 +9,7 @@ use Rattle.listing.specs.Listing.{Outcome, listOf}
 abbrev pub taken : List ℕ → Outcome → List ℕ
 taken s r = take (r .taken) s
 
+-- the text that a call put to the front of its buffer
 abbrev pub text : Outcome → List ℕ
 text r = take (r .length) (r .buffer)
 

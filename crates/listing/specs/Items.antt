@@ -23,10 +23,12 @@ abbrev pub clockOf : Reading → ClockTime
 clockOf (time t) = t
 clockOf (timeAndPosition g) = g .time
 
+-- the clock time of what was read
 abbrev pub clockAnswer : Answer Reading → Answer ClockTime
 clockAnswer (accepted r) = accepted (clockOf r)
 clockAnswer (refused k) = refused k
 
+-- a string read as the kind that was told
 abbrev pub readTold : List ℕ → Answer Kind → Answer ClockTime
 readTold s (accepted kind) = clockAnswer (readAs kind s)
 readTold s (refused k) = refused k
@@ -54,6 +56,7 @@ Within nothingYet bytes = Unit {0}
 Within (complete n) bytes = n ≤ length bytes
 Within dropped bytes = Unit {0}
 
+-- the function's entry as an item
 abbrev pub entryItem : Entry → Item
 entryItem entries.Nothing = nothing
 entryItem (entries.Read t) = string (accepted t)

@@ -36,6 +36,7 @@ lineWith t offset flags =
     ++ ascii " " ++ offset
     ++ ascii " " ++ flags ++ ascii "\n"
 
+-- the line of a clock time
 unfoldable pub lineOf : ClockTime → List ℕ
 lineOf t = lineWith t (offsetText (t .«utc_offset»)) (flagsText t)
 

@@ -48,6 +48,7 @@ pub record Outcome : Type 0 where
   pub length : ℕ
   pub buffer : List ℕ
 
+-- the result of a call and the buffer at exit, as one value
 abbrev pub outcome : Listed → List ℕ → Outcome
 outcome r buffer = record { listing = r .listing; taken = r .taken; length = r .length; buffer = buffer }
 
@@ -61,6 +62,7 @@ taking l s buffer n =
       buffer = textOf l (take n s) ++ drop (length (textOf l (take n s))) buffer;
     }
 
+-- what a call on the bytes s and a buffer comes to
 unfoldable pub listOf : Listing → List ℕ → List ℕ → Outcome
 listOf l s buffer = taking l s buffer (takenOf l s (length buffer))
 

@@ -83,8 +83,10 @@ pzf =
       same = sameTime;
     }
 
+-- the reader, by the rule for every time string
 unfoldable pub readPzf : List ℕ → Answer ClockTime
 readPzf s = readText pzf s
 
+-- the writer, by the rule for every time string
 unfoldable pub writePzf : ClockTime → List ℕ → Outcome
 writePzf t buffer = writeText pzf t buffer

@@ -54,6 +54,7 @@ standardFields s =
 unfoldable pub zoneLetter : ℤ → Bool → ℕ
 zoneLetter offset summer = cond summer (code "S") (cond (eqℤ offset (pos 0)) (code "U") 32)
 
+-- the letter of what is announced: `!` where both are
 unfoldable pub announcedLetter : Bool → Bool → ℕ
 announcedLetter change leap = cond change (code "!") (letter leap "A")
 
@@ -65,6 +66,7 @@ lineOf t u v x y =
     ++ ascii ";U:" ++ digits 2 (t .hour) ++ ascii "." ++ digits 2 (t .minute) ++ ascii "." ++ digits 2 (t .second)
     ++ ascii ";" ++ (u ∷ v ∷ x ∷ y ∷ ascii "\u{3}")
 
+-- the only string that could be read as a clock time
 unfoldable pub standardText : ClockTime → List ℕ
 standardText t =
     lineOf t (letter (t .unsynchronised) "#") (letter (t .unverified) "*")
@@ -93,8 +95,10 @@ standard =
       same = sameTime;
     }
 
+-- the reader, by the rule for every time string
 unfoldable pub readStandard : List ℕ → Answer ClockTime
 readStandard s = readText standard s
 
+-- the writer, by the rule for every time string
 unfoldable pub writeStandard : ClockTime → List ℕ → Outcome
 writeStandard t buffer = writeText standard t buffer

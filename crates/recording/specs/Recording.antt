@@ -18,6 +18,7 @@ use Rattle.recording.specs.declared.CorrectAnswer.{CorrectAnswer}
 abbrev pub rule : List ℕ → ℕ → ℕ
 rule marks place = ruleBy runNumber marks place
 
+-- the function's answer: a number, or a refusal with the error's number
 abbrev pub outcomeAnswer : OutcomeAnswer → Answer ℕ
 outcomeAnswer (OutcomeAnswer.Number n) = accepted n
 outcomeAnswer (OutcomeAnswer.Refused e) = refused (errorNumber e)
@@ -53,9 +54,11 @@ pub record Recorded : Type 0 where
   pub marks : List ℕ
   pub outcomes : List ℕ
 
+-- marks and outcomes, as one value
 abbrev pub recorded : List ℕ → List ℕ → Recorded
 recorded marks outcomes = record { marks = marks; outcomes = outcomes }
 
+-- the function's answer: the count, or a refusal with the error's number
 abbrev pub correctAnswer : CorrectAnswer → Answer ℕ
 correctAnswer (CorrectAnswer.Corrected n) = accepted n
 correctAnswer (CorrectAnswer.Refused e) = refused (errorNumber e)

@@ -28,6 +28,7 @@ kindOf s =
     (cond (eqb (length s) 21) (accepted Elv)
     (refused 1)))
 
+-- the function's answer: a kind, or a refusal with the error's number
 abbrev pub kindAnswer : KindAnswer → Answer Kind
 kindAnswer (kinds.Told k) = accepted k
 kindAnswer (kinds.Refused e) = refused (errorNumber e)
@@ -37,10 +38,12 @@ pub data Reading : Type 0 where
   time : ClockTime → Reading
   timeAndPosition : GpsTime → Reading
 
+-- the answer of a reader whose strings have no position
 abbrev pub plain : Answer ClockTime → Answer Reading
 plain (accepted t) = accepted (time t)
 plain (refused k) = refused k
 
+-- the answer of a reader whose strings have one
 abbrev pub located : Answer GpsTime → Answer Reading
 located (accepted g) = accepted (timeAndPosition g)
 located (refused k) = refused k
@@ -52,6 +55,7 @@ readAs Pzf s = plain (readPzf s)
 readAs Gps s = located (readGps s)
 readAs Elv s = plain (readElv s)
 
+-- the function's answer: a reading, or a refusal with the error's number
 abbrev pub timeAnswer : TimeAnswer → Answer Reading
 timeAnswer (times.Read t) = accepted (time t)
 timeAnswer (times.ReadWithPosition g) = accepted (timeAndPosition g)

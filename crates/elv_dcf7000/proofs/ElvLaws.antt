@@ -12,9 +12,8 @@ use mir.Val.{boolByte}
 use borrow.Author.Tests.{eq-eqb, ne-eqb, eqb-true, leb-true, le-leb, lt-ltb, le-ltb, ltb-false, not-true}
 use Rattle.clock_time.specs.Errors.{Answer, accepted, refused, given, checked}
 use Rattle.clock_time.specs.Same.{eqℤ, sameFields, sameTime}
-use Rattle.clock_time.specs.Writing.{writing}
 use Rattle.clock_time.specs.declared.ClockTime.{ClockTime}
-use Rattle.clock_time.proofs.SameLaws.{eqℤ-refl, eqb-refl, beq-refl, beq-true, sameTime-refl, sameTime-true}
+use Rattle.clock_time.proofs.SameLaws.{eqℤ-refl, eqb-refl, beq-refl, beq-true, sameTime-true}
 use Rattle.clock_time.proofs.Tests.{both, below-at}
 use Rattle.calendar.specs.Date.{dateExists, fullYear, knownDate, weekdayOf, weekdayNumber, weekdayOrZero}
 use Rattle.calendar.specs.TimeOfDay.{timeExists}
@@ -29,8 +28,7 @@ use Rattle.layout.specs.Text.{clockChecks}
 use Rattle.layout.proofs.LayoutLaws.{tested-fits, digit-place}
 use Rattle.layout.proofs.TextLaws.{read-fitting}
 use Rattle.layout.proofs.WriteLaws.{restore-fits, digits-number, digits-year}
-use Rattle.layout.proofs.DecideLaws.{digit-fits, Written, written, Decides, zone-in-range}
-use Rattle.layout.proofs.DecideLaws as text
+use Rattle.layout.proofs.DecideLaws.{digit-fits, Written, written, DecidesClock, zone-in-range}
 use Rattle.elv_dcf7000.specs.Elv.{elvLayout, elvFlags, elvFlagFault, summerIn, changeIn, unsynchronisedIn}
 use Rattle.elv_dcf7000.specs.Elv.{elvOffset, sentFields, withWeekday, elvFields, flagSum, elvText, elvCarries}
 use Rattle.elv_dcf7000.specs.Elv.{elv, readElv, writeElv}
@@ -233,23 +231,14 @@ text-says t h k =
       eqℤ-refl,
     ))
 
-decides : Decides elv elvCarries
-unfolding elv elvFields withWeekday sentFields elvOffset
+pub decides : DecidesClock elvLayout elvFlagFault elvFields elvText elvCarries
+unfolding elvFields withWeekday sentFields elvOffset
 decides =
     record {
       year = λ s. (number 2 0 s, refl);
-      offset = λ s r. zone-in-range false (summerIn (elvFlags s));
-      carried = λ s r. fields-carried s;
-      fits = λ t h k. text-fits t;
-      flags = λ t h k. text-faultless t;
-      offsets = λ t h k. refl;
-      position = λ t h k. refl;
-      agrees = λ t h k. refl;
+      offset = λ s. zone-in-range false (summerIn (elvFlags s));
+      carried = fields-carried;
+      fits = text-fits;
+      faultless = text-faultless;
       says = text-says;
     }
-
--- the writer's code does as its definition says
-pub writes : (t : ClockTime) {u v : Bool} {bytes : List ℕ} → u ≡ isValid t → v ≡ elvCarries t
-    → bytes ≡ elvText t → (buffer : List ℕ) → writing (u && v) bytes buffer ≡ writeElv t buffer
-unfolding writeElv elv
-writes t h k e buffer = text.writes elv elvCarries decides sameTime-refl sameTime-true t h k e buffer

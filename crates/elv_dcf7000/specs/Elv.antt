@@ -5,14 +5,14 @@ use mathlib.Core.List.{List, _++_}
 use lib.Dec.{eqb, ltb}
 use lib.IntN.{ℤ, pos}
 use Rattle.clock_time.specs.Errors.{Answer}
-use Rattle.clock_time.specs.Same.{eqℤ, sameTime}
+use Rattle.clock_time.specs.Same.{eqℤ}
 use Rattle.clock_time.specs.Writing.{Outcome}
 use Rattle.clock_time.specs.declared.ClockTime.{ClockTime}
 use Rattle.calendar.specs.Date.{fullYear, weekdayOrZero}
 use Rattle.decimal.specs.Decimal.{digits}
 use Rattle.layout.specs.Ascii.{ascii}
 use Rattle.layout.specs.Layout.{digit, places, number}
-use Rattle.layout.specs.Text.{Format, readText, writeText}
+use Rattle.layout.specs.Text.{Format, clockFormat, readText, writeText}
 
 -- "`YY-MM-DD-HH-MM-SS-FF` and CR. The pattern in 002 has seven dashes; the layout has six and holds." (01, Meinberg and
 -- ELV strings)
@@ -117,18 +117,7 @@ elvCarries t =
 
 -- the format: its only fault beyond the shared ones is FF above 07
 unfoldable pub elv : Format ClockTime
-elv =
-    record {
-      layout = elvLayout;
-      flagFault = elvFlagFault;
-      offsetFault = λ s. false;
-      positionFault = λ s. false;
-      mismatch = λ s. false;
-      fields = elvFields;
-      clock = λ t. t;
-      text = elvText;
-      same = sameTime;
-    }
+elv = clockFormat elvLayout elvFlagFault elvFields elvText
 
 -- the reader, by the rule for every time string
 unfoldable pub readElv : List ℕ → Answer ClockTime

@@ -14,6 +14,7 @@ use Rattle.clock_time.specs.Errors.{accepted}
 use Rattle.clock_time.specs.Writing.{writing, writeBack}
 use Rattle.clock_time.specs.declared.ClockTime.{ClockTime}
 use Rattle.clock_time.proofs.BackLaws.{decided}
+use Rattle.clock_time.proofs.SameLaws.{sameTime-refl, sameTime-true}
 use Rattle.clock_time.proofs.Tests.{both}
 use Rattle.calendar.specs.Date.{fullYear}
 use Rattle.calendar.specs.UnixTime.{offsetInRange, isValid}
@@ -22,7 +23,7 @@ use Rattle.calendar.proofs.ValidLaws.{Valid, valid, checked-valid, year-back}
 use Rattle.decimal.specs.Decimal.{isDigit, digits, value}
 use Rattle.decimal.proofs.DecimalLaws.{value-digits}
 use Rattle.layout.specs.Layout.{FitsLayout}
-use Rattle.layout.specs.Text.{Format, readText, writeText, letter}
+use Rattle.layout.specs.Text.{Format, clockFormat, readText, writeText, letter}
 use Rattle.layout.specs.Accepts.{Accepts}
 use Rattle.layout.proofs.AcceptLaws.{read-accepts, accepts-read}
 
@@ -143,3 +144,39 @@ module _ {A : Type 0} (f : Format A) (carries : A → Bool) (d : Decides f carri
         decided (readText f) (f .text) (f .same) same-refl same-true
             (λ b. isValid (f .clock b) && carries b) passes reads a,
       )
+
+-- ---- formats of clock times alone
+pub record DecidesClock
+    (layout : List ℕ) (fault : List ℕ → Bool) (fields : List ℕ → ClockTime) (text : ClockTime → List ℕ)
+    (carries : ClockTime → Bool) : Type 0 where
+  -- what is read is carried, has a year of two digits and an offset in range
+  pub year : (s : List ℕ) → (n : ℕ) × (fields s .year ≡ fullYear n)
+  pub offset : (s : List ℕ) → offsetInRange (fields s .«utc_offset») ≡ true
+  pub carried : (s : List ℕ) → carries (fields s) ≡ true
+  -- a text fits its layout and has no fault, and that of a valid reading that is carried says the same
+  pub fits : (t : ClockTime) → FitsLayout layout (text t)
+  pub faultless : (t : ClockTime) → fault (text t) ≡ false
+  pub says : (t : ClockTime) → isValid t ≡ true → carries t ≡ true → fields (text t) ≡ t
+
+module _
+    {layout : List ℕ} {fault : List ℕ → Bool} {fields : List ℕ → ClockTime} {text : ClockTime → List ℕ}
+    {carries : ClockTime → Bool} (d : DecidesClock layout fault fields text carries)
+  where
+    clock-decides : Decides (clockFormat layout fault fields text) carries
+    clock-decides =
+        record {
+          year = d .year;
+          offset = λ s r. d .offset s;
+          carried = λ s r. d .carried s;
+          fits = λ t h k. d .fits t;
+          flags = λ t h k. d .faultless t;
+          offsets = λ t h k. refl;
+          position = λ t h k. refl;
+          agrees = λ t h k. refl;
+          says = d .says;
+        }
+
+    pub clock-writes : (t : ClockTime) {u v : Bool} {bytes : List ℕ} → u ≡ isValid t → v ≡ carries t → bytes ≡ text t
+        → (buffer : List ℕ) → writing (u && v) bytes buffer ≡ writeText (clockFormat layout fault fields text) t buffer
+    clock-writes =
+        writes (clockFormat layout fault fields text) carries clock-decides sameTime-refl sameTime-true

@@ -1,11 +1,12 @@
 -- The rule for every time string: which strings are read, in which order errors are given. Assumes nothing.
 use Prim.Native.Nat.{ℕ}
 use Prim.Native.Char.{Char, code}
-use mathlib.Core.Bool.{Bool, cond, not, _&&_, _||_}
+use mathlib.Core.Bool.{Bool, false, cond, not, _&&_, _||_}
 use mathlib.Core.List.{List, [], _∷_}
 use lib.Dec.{leb, eqb}
 use lib.ListN.{length}
 use Rattle.clock_time.specs.Errors.{Answer, accepted, refused, errorNumber, Check, given, checked}
+use Rattle.clock_time.specs.Same.{sameTime}
 use Rattle.clock_time.specs.Writing.{Outcome, writeBack}
 use Rattle.clock_time.specs.declared.ClockTime.{ClockTime}
 use Rattle.calendar.specs.Date.{dateExists}
@@ -26,6 +27,21 @@ pub record Format (A : Type 0) : Type 0 where
   pub clock : A → ClockTime
   pub text : A → List ℕ
   pub same : A → A → Bool
+
+-- a format of clock times alone, which has no faults of its own but in its flags
+abbrev pub clockFormat : List ℕ → (List ℕ → Bool) → (List ℕ → ClockTime) → (ClockTime → List ℕ) → Format ClockTime
+clockFormat layout flagFault fields text =
+    record {
+      layout = layout;
+      flagFault = flagFault;
+      offsetFault = λ s. false;
+      positionFault = λ s. false;
+      mismatch = λ s. false;
+      fields = fields;
+      clock = λ t. t;
+      text = text;
+      same = sameTime;
+    }
 
 -- "5 no such date", "6 no such time of day, second 60 rule included", "7 weekday outside 1..7" (01, Refusal numbers)
 unfoldable pub clockChecks : ClockTime → Bool → List Check

@@ -8,16 +8,14 @@ use lib.Dec.{lit<, lit≤}
 use lib.ListN.{getD}
 use lib.IntN.{pos}
 use Rattle.clock_time.specs.Same.{eqℤ}
-use Rattle.clock_time.specs.Writing.{writing}
 use Rattle.clock_time.specs.declared.ClockTime.{ClockTime}
-use Rattle.clock_time.proofs.SameLaws.{eqℤ-refl, eqℤ-true, sameTime-refl, sameTime-true}
+use Rattle.clock_time.proofs.SameLaws.{eqℤ-refl, eqℤ-true}
 use Rattle.calendar.specs.UnixTime.{isValid}
 use Rattle.decimal.specs.Decimal.{digits}
 use Rattle.layout.specs.Ascii.{ascii}
 use Rattle.layout.specs.Layout.{allowed, fitsFrom, FitsLayout, number, has}
 use Rattle.layout.proofs.LayoutLaws.{tested-fits}
-use Rattle.layout.proofs.DecideLaws.{digit-fits, letter-fits, letter-read, Written, written, Decides, zone-in-range}
-use Rattle.layout.proofs.DecideLaws as text
+use Rattle.layout.proofs.DecideLaws.{digit-fits, letter-fits, letter-read, Written, written, DecidesClock, zone-in-range}
 use Rattle.layout.proofs.WriteLaws.{restore-fits, digits-number, digits-year, letter-back}
 use Rattle.meinberg_pzf.specs.Pzf.{pzfLayout, pzfOffset, pzfFields, pzfText, pzfCarries, pzf, writePzf}
 
@@ -94,23 +92,14 @@ text-says t h k =
       eqℤ-true _ _ k,
     )
 
-decides : Decides pzf pzfCarries
-unfolding pzf pzfFields pzfOffset
+pub decides : DecidesClock pzfLayout (λ s. false) pzfFields pzfText pzfCarries
+unfolding pzfFields pzfOffset
 decides =
     record {
       year = λ s. (number 2 7 s, refl);
-      offset = λ s r. zone-in-range (has "U" 24 s) (has "S" 27 s);
-      carried = λ s r. fields-carried s;
-      fits = λ t h k. text-fits t;
-      flags = λ t h k. refl;
-      offsets = λ t h k. refl;
-      position = λ t h k. refl;
-      agrees = λ t h k. refl;
+      offset = λ s. zone-in-range (has "U" 24 s) (has "S" 27 s);
+      carried = fields-carried;
+      fits = text-fits;
+      faultless = λ t. refl;
       says = text-says;
     }
-
--- the writer's code does as its definition says
-pub writes : (t : ClockTime) {u v : Bool} {bytes : List ℕ} → u ≡ isValid t → v ≡ pzfCarries t
-    → bytes ≡ pzfText t → (buffer : List ℕ) → writing (u && v) bytes buffer ≡ writePzf t buffer
-unfolding writePzf pzf
-writes t h k e buffer = text.writes pzf pzfCarries decides sameTime-refl sameTime-true t h k e buffer

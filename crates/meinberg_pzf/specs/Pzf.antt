@@ -4,14 +4,14 @@ use mathlib.Core.Bool.{Bool, false, cond}
 use mathlib.Core.List.{List, _∷_, _++_}
 use lib.IntN.{ℤ, pos}
 use Rattle.clock_time.specs.Errors.{Answer}
-use Rattle.clock_time.specs.Same.{eqℤ, sameTime}
+use Rattle.clock_time.specs.Same.{eqℤ}
 use Rattle.clock_time.specs.Writing.{Outcome}
 use Rattle.clock_time.specs.declared.ClockTime.{ClockTime}
 use Rattle.calendar.specs.Date.{fullYear}
 use Rattle.decimal.specs.Decimal.{digits}
 use Rattle.layout.specs.Ascii.{ascii}
 use Rattle.layout.specs.Layout.{digit, flag, places, number, has}
-use Rattle.layout.specs.Text.{Format, readText, writeText, letter}
+use Rattle.layout.specs.Text.{Format, clockFormat, readText, writeText, letter}
 
 -- "`STX dd.mm.yy; w; hh:mm:ss; tuvxyza ETX`. Flags at 24..30: t `U`, u `#`, v `*`, x `S`, y `!`, z `A`, a `R`, or
 -- blank." (01, Meinberg and ELV strings)
@@ -70,18 +70,7 @@ pzfCarries t = eqℤ (pzfOffset (eqℤ (t .«utc_offset») (pos 0)) (t .«summer
 
 -- it has no faults of its own beyond its layout's and its clock time's
 unfoldable pub pzf : Format ClockTime
-pzf =
-    record {
-      layout = pzfLayout;
-      flagFault = λ s. false;
-      offsetFault = λ s. false;
-      positionFault = λ s. false;
-      mismatch = λ s. false;
-      fields = pzfFields;
-      clock = λ t. t;
-      text = pzfText;
-      same = sameTime;
-    }
+pzf = clockFormat pzfLayout (λ s. false) pzfFields pzfText
 
 -- the reader, by the rule for every time string
 unfoldable pub readPzf : List ℕ → Answer ClockTime

@@ -11,17 +11,15 @@ use lib.ListN.{getD}
 use lib.IntN.{ℤ, pos}
 use borrow.Author.Tests.{eqb-true, not-true}
 use Rattle.clock_time.specs.Same.{eqℤ, sameFields, sameTime}
-use Rattle.clock_time.specs.Writing.{writing}
 use Rattle.clock_time.specs.declared.ClockTime.{ClockTime}
-use Rattle.clock_time.proofs.SameLaws.{eqℤ-refl, eqℤ-true, eqb-refl, beq-refl, sameTime-refl, sameTime-true}
+use Rattle.clock_time.proofs.SameLaws.{eqℤ-refl, eqℤ-true, eqb-refl, beq-refl, sameTime-true}
 use Rattle.clock_time.proofs.Tests.{both}
 use Rattle.calendar.specs.UnixTime.{isValid}
 use Rattle.decimal.specs.Decimal.{digits}
 use Rattle.layout.specs.Ascii.{ascii}
 use Rattle.layout.specs.Layout.{allowed, fitsFrom, FitsLayout, number}
 use Rattle.layout.proofs.LayoutLaws.{tested-fits}
-use Rattle.layout.proofs.DecideLaws.{digit-fits, letter-fits, letter-read, Written, written, Decides, zone-in-range}
-use Rattle.layout.proofs.DecideLaws as text
+use Rattle.layout.proofs.DecideLaws.{digit-fits, letter-fits, letter-read, Written, written, DecidesClock, zone-in-range}
 use Rattle.layout.proofs.WriteLaws.{restore-fits, digits-number, digits-year, letter-back, either-all}
 use Rattle.meinberg_standard.specs.Standard.{standardLayout, standardZone, standardFields}
 use Rattle.meinberg_standard.specs.Standard.{zoneLetter, announcedLetter, standardText, standardCarries}
@@ -170,23 +168,14 @@ text-says t h k =
       eqℤ-refl,
     ))
 
-decides : Decides standard standardCarries
-unfolding standard standardFields standardZone
+pub decides : DecidesClock standardLayout (λ s. false) standardFields standardText standardCarries
+unfolding standardFields standardZone
 decides =
     record {
       year = λ s. (number 2 9 s, refl);
-      offset = λ s r. zone-in-range (eqb (getD s 29 0) (code "U")) (eqb (getD s 29 0) (code "S"));
-      carried = λ s r. fields-carried s;
-      fits = λ t h k. text-fits t;
-      flags = λ t h k. refl;
-      offsets = λ t h k. refl;
-      position = λ t h k. refl;
-      agrees = λ t h k. refl;
+      offset = λ s. zone-in-range (eqb (getD s 29 0) (code "U")) (eqb (getD s 29 0) (code "S"));
+      carried = fields-carried;
+      fits = text-fits;
+      faultless = λ t. refl;
       says = text-says;
     }
-
--- the writer's code does as its definition says
-pub writes : (t : ClockTime) {u v : Bool} {bytes : List ℕ} → u ≡ isValid t → v ≡ standardCarries t
-    → bytes ≡ standardText t → (buffer : List ℕ) → writing (u && v) bytes buffer ≡ writeStandard t buffer
-unfolding writeStandard standard
-writes t h k e buffer = text.writes standard standardCarries decides sameTime-refl sameTime-true t h k e buffer

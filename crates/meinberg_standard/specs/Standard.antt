@@ -7,14 +7,14 @@ use lib.Dec.{eqb}
 use lib.ListN.{getD}
 use lib.IntN.{ℤ, pos}
 use Rattle.clock_time.specs.Errors.{Answer}
-use Rattle.clock_time.specs.Same.{eqℤ, sameTime}
+use Rattle.clock_time.specs.Same.{eqℤ}
 use Rattle.clock_time.specs.Writing.{Outcome}
 use Rattle.clock_time.specs.declared.ClockTime.{ClockTime}
 use Rattle.calendar.specs.Date.{fullYear}
 use Rattle.decimal.specs.Decimal.{digits}
 use Rattle.layout.specs.Ascii.{ascii}
 use Rattle.layout.specs.Layout.{digit, flag, either, places, number, has}
-use Rattle.layout.specs.Text.{Format, readText, writeText, letter}
+use Rattle.layout.specs.Text.{Format, clockFormat, readText, writeText, letter}
 
 -- "`STX D:dd.mm.yy;T:w;U:hh.mm.ss;uvxy ETX` [..] The time has dots: 002 shows colons in the layout, dots in its
 -- pattern. Dots hold." (01, Meinberg and ELV strings)
@@ -82,18 +82,7 @@ standardCarries t =
 
 -- it has no faults of its own beyond its layout's and its clock time's
 unfoldable pub standard : Format ClockTime
-standard =
-    record {
-      layout = standardLayout;
-      flagFault = λ s. false;
-      offsetFault = λ s. false;
-      positionFault = λ s. false;
-      mismatch = λ s. false;
-      fields = standardFields;
-      clock = λ t. t;
-      text = standardText;
-      same = sameTime;
-    }
+standard = clockFormat standardLayout (λ s. false) standardFields standardText
 
 -- the reader, by the rule for every time string
 unfoldable pub readStandard : List ℕ → Answer ClockTime

@@ -1,17 +1,21 @@
 -- `elv_dcf7000::write_elv` meets its contract. Assumes nothing.
 use borrow.Author.Needs.{needs}
 use mathlib.Core.Path.{_∙_}
-use Rattle.elv_dcf7000.proofs.ElvLaws.{writes}
+use Rattle.layout.proofs.DecideLaws.{clock-writes}
+use Rattle.elv_dcf7000.specs.Elv.{elv, writeElv}
+use Rattle.elv_dcf7000.proofs.ElvLaws.{decides}
 use Rattle.elv_dcf7000.proofs.write_elv.Statement.{statement}
 use Rattle.elv_dcf7000.proofs.write_elv.Tie as tie
 
 returns : tie.Need-returns
+unfolding writeElv elv
 returns c =
     let w = c .before .before in
     let carried = w .before .before .before in
     let line = carried .before .before in
     w .write-bytes .ensures
-    ∙ writes _ (carried .before .is-valid .ensures) (carried .is-carried .ensures) (line .line-of .ensures) _
+    ∙ clock-writes decides _ (carried .before .is-valid .ensures) (carried .is-carried .ensures)
+    (line .line-of .ensures) _
 
 pub write-elv-spec : {M : Type 1} → statement M
 write-elv-spec =

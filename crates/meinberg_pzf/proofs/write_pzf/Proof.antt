@@ -1,17 +1,21 @@
 -- `meinberg_pzf::write_pzf` meets its contract. Assumes nothing.
 use borrow.Author.Needs.{needs}
 use mathlib.Core.Path.{_∙_}
-use Rattle.meinberg_pzf.proofs.PzfLaws.{writes}
+use Rattle.layout.proofs.DecideLaws.{clock-writes}
+use Rattle.meinberg_pzf.specs.Pzf.{pzf, writePzf}
+use Rattle.meinberg_pzf.proofs.PzfLaws.{decides}
 use Rattle.meinberg_pzf.proofs.write_pzf.Statement.{statement}
 use Rattle.meinberg_pzf.proofs.write_pzf.Tie as tie
 
 returns : tie.Need-returns
+unfolding writePzf pzf
 returns c =
     let w = c .before .before in
     let carried = w .before .before .before in
     let line = carried .before .before in
     w .write-bytes .ensures
-    ∙ writes _ (carried .before .is-valid .ensures) (carried .is-carried .ensures) (line .line-of .ensures) _
+    ∙ clock-writes decides _ (carried .before .is-valid .ensures) (carried .is-carried .ensures)
+    (line .line-of .ensures) _
 
 pub write-pzf-spec : {M : Type 1} → statement M
 write-pzf-spec =

@@ -48,11 +48,7 @@ fn fits(s: &[u8]) -> bool
 {
     words::eight_fit(s, 0, b'0', b'0', b'-', b'0', b'0', b'-', b'0', b'0')
         & words::eight_fit(s, 8, b'-', b'0', b'0', b'-', b'0', b'0', b'-', b'0')
-        & ((48 <= s[16]) & (s[16] <= 57))
-        & (s[17] == b'-')
-        & ((48 <= s[18]) & (s[18] <= 57))
-        & ((48 <= s[19]) & (s[19] <= 57))
-        & (s[20] == 13)
+        & words::eight_fit(s, 13, 0, 0, 0, b'0', b'-', b'0', b'0', 13)
 }
 
 // The error of a string that does not fit.

@@ -1,115 +1,119 @@
--- One byte of a string and the byte of a sample that it is held to: their bits agree, before and after six is added to
--- a digit, exactly if the byte may stand there. Assumes nothing.
-use Prim.Native.Nat.{ℕ, _+_, _*_, _/_, _%_, _≤_, _<_}
-use native.Mathlib.Nat.{mod-eq-of-lt}
+-- The tests of one byte on its bits, and what they say of it. Assumes nothing.
+use Prim.Native.Nat.{ℕ, _+_, _*_, _%_, _<_}
 use native.Mathlib.Omega.{arith}
-use native.Mathlib.Decide.{decLt}
+use native.Mathlib.Decide.{ℕ-discrete}
 use mathlib.Core.Path.{_≡_, refl, sym, ap, _∙_}
-use mathlib.Core.Bool.{Bool, true, false, cond, _&&_}
-use lib.Dec.{eqb, leb}
-use lib.Bits.{bitAnd, and-mask, and-high, and-zero-r}
-use borrow.Author.Tests.{eq-eqb, eqb-true, le-leb, lt-leb, lt-ltb, leb-true}
-use Rattle.clock_time.proofs.Tests.{both}
+use mathlib.Core.Bool.{Bool, true, false, cond, _||_, Bool·beq}
+use lib.Dec.{T, eqb, ltb, ltb→lt, eqb→eq, lit<}
+use lib.Bits.{bitAnd, bitOr, bitXor, and-zero-r, and-le-l, and-le-r, xor-add-and, xor-lt, xor-self}
+use borrow.Author.Tests.{eq-eqb, ne-eqb, eqb-true, lt-ltb, le-ltb}
+use Rattle.clock_time.proofs.Tests.{below, below-at}
 use Rattle.decimal.specs.Decimal.{isDigit}
-use Rattle.layout.specs.Layout.{allowed}
+use Rattle.layout.specs.Layout.{allowed, flagOf}
 use Rattle.layout.specs.Words.{samplePlace, bySample}
 
--- the bits that a byte of a sample settles, and what takes a byte above the digits out of their half
-abbrev pub maskOf : ℕ → ℕ
-maskOf p = bySample 240 0 255 p
-
-abbrev pub sixOf : ℕ → ℕ
-sixOf p = bySample 6 0 0 p
-
-pub mask-small : (p : ℕ) → maskOf p < 256
-unfolding bySample
-mask-small p = go (eqb p 48) (eqb p 0)
+-- two tests that agree on all bytes, by computation
+same-test : (f g : ℕ → Bool) → T (below 256 (λ n. Bool·beq (f n) (g n))) → (n : ℕ) → n < 256 → f n ≡ g n
+same-test f g t n h = go (f n) (g n) (below-at 256 (λ n. Bool·beq (f n) (g n)) t n h)
   where
-    go : (t u : Bool) → cond {A = ℕ} t 240 (cond u 0 255) < 256
-    go true u = omega arith
-    go false true = omega arith
-    go false false = omega arith
+    go : (a b : Bool) → T (Bool·beq a b) → a ≡ b
+    go true true t = refl
+    go false false t = refl
+    go true false t = absurd t
+    go false true t = absurd t
 
-high-half : (n : ℕ) → bitAnd n 240 ≡ n / 16 % 16 * 16
-high-half n = and-high n 4 4
-
-low-byte : (n : ℕ) → bitAnd n 255 ≡ n % 256
-low-byte n = and-mask n 8
-
--- a byte that agrees with a sample's is one still once six is added, and agrees again if it may stand there
-pub record Agrees (p b : ℕ) : Type 0 where
-  pub small : b + sixOf p < 256
-  pub again : eqb (bitAnd (b + sixOf p) (maskOf p)) p ≡ allowed (samplePlace p) b
-
--- the bytes whose high half is 3
-high-three : (n : ℕ) → 48 ≤ n → n < 64 → n / 16 % 16 * 16 ≡ 48
-high-three n h k = let e : n / 16 ≡ 3 = omega arith in rw e
-
-high-four : (n : ℕ) → 64 ≤ n → n < 80 → n / 16 % 16 * 16 ≡ 64
-high-four n h k = let e : n / 16 ≡ 4 = omega arith in rw e
-
-three-high : (n : ℕ) → n < 256 → n / 16 % 16 * 16 ≡ 48 → (48 ≤ n) × (n < 64)
-three-high n h e =
-    let few : n / 16 < 16 = omega arith in
-    let same : n / 16 % 16 ≡ n / 16 = mod-eq-of-lt few in
-    let three : n / 16 ≡ 3 = omega (arith, rw same at e) in
-    (omega arith, omega arith)
-
-digit-again : (b : ℕ) → 48 ≤ b → b < 64 → eqb ((b + 6) / 16 % 16 * 16) 48 ≡ (leb 48 b && leb b 57)
-digit-again b h k = elim (decLt 57 b) [
-  | yes l ↦ let low : 64 ≤ b + 6 = omega arith in
-      let high : b + 6 < 80 = omega arith in
-      rw (high-four (b + 6) low high, le-leb 48 b h, lt-leb b 57 l)
-  | no l ↦ let last : b ≤ 57 = omega arith in
-      let low : 48 ≤ b + 6 = omega arith in
-      let high : b + 6 < 64 = omega arith in
-      rw (high-three (b + 6) low high, le-leb 48 b h, le-leb b 57 last)
+same-xor : (b p : ℕ) → eqb (bitXor b p) 0 ≡ eqb b p
+same-xor b p = elim (ℕ-discrete b p) [
+  | yes e ↦ rw (eq-eqb b p e, e) (eq-eqb (bitXor p p) 0 (xor-self p))
+  | no d ↦ let e : bitXor b p ≡ 0 → ⊥ =
+      λ z. d (omega (arith, z, xor-add-and b p, and-le-l b p, and-le-r b p)) in
+      ne-eqb (bitXor b p) 0 e ∙ rw (ne-eqb b p d)
 ]
 
-pub agrees : (p b : ℕ) → p < 256 → b < 256 → bitAnd b (maskOf p) ≡ p → Agrees p b
-unfolding bySample samplePlace allowed isDigit
-agrees p b hp hb e = go (eqb p 48) (eqb p 0) refl refl
-  where
-    go : (t u : Bool) → eqb p 48 ≡ t → eqb p 0 ≡ u → Agrees p b
-    go true u q r =
-        let z : p ≡ 48 = eqb-true p 48 q in
-        let range = three-high b hb (sym (high-half b) ∙ (rw q at e) ∙ z) in
-        let small : b + 6 < 256 = omega (arith, range .1) in
-        record {
-          small = rw q small;
-          again = rw (q, high-half, z) (digit-again b (range .0) (range .1));
-        }
-    go false true q r =
-        let z : p ≡ 0 = eqb-true p 0 r in
-        let small : b + 0 < 256 = omega arith in
-        record {
-          small = rw (q, r) small;
-          again = rw (q, r) (ap (λ (n : ℕ). eqb n p) (and-zero-r (b + 0)) ∙ eq-eqb 0 p (sym z));
-        }
-    go false false q r =
-        let small : b + 0 < 256 = omega arith in
-        let zero : b + 0 ≡ b = omega arith in
-        let byte : b % 256 ≡ b = omega arith in
-        record {
-          small = rw (q, r) small;
-          again = rw (q, r, zero, low-byte, byte, lt-ltb p 256 hp);
-        }
+pub fixed-test : (p b : ℕ) → p < 256 → allowed p b ≡ eqb b p
+unfolding allowed
+fixed-test p b h = rw (lt-ltb p 256 h)
 
--- a byte that may stand there agrees
-pub allowed-agrees : (p b : ℕ) → p < 256 → b < 256 → allowed (samplePlace p) b ≡ true → bitAnd b (maskOf p) ≡ p
-unfolding bySample samplePlace allowed isDigit
-allowed-agrees p b hp hb = go (eqb p 48) (eqb p 0) refl refl
+-- ---- the byte of a sample
+abbrev pub moreOf : ℕ → ℕ
+moreOf p = bySample 118 0 127 p
+
+abbrev pub highOf : ℕ → ℕ
+highOf p = bySample 128 0 128 p
+
+-- the code's test of a number below a size that is the difference from a sample's: no bit of `high` is set, neither in
+-- it nor once `more` is added
+abbrev pub clear : ℕ → ℕ → ℕ → ℕ → Bool
+clear size more high x = eqb (bitAnd (bitOr x ((x + more) % size)) high) 0
+
+digit-test : (b : ℕ) → b < 256 → clear 256 118 128 (bitXor b 48) ≡ isDigit b
+unfolding isDigit
+digit-test = same-test (λ b. clear 256 118 128 (bitXor b 48)) (λ b. isDigit b) tt
+
+zero-test : (x : ℕ) → x < 256 → clear 256 127 128 x ≡ eqb x 0
+zero-test = same-test (clear 256 127 128) (λ x. eqb x 0) tt
+
+pub sample-test : (p b : ℕ) → p < 256 → b < 256
+    → clear 256 (moreOf p) (highOf p) (bitXor b p) ≡ allowed (samplePlace p) b
+unfolding bySample samplePlace allowed
+sample-test p b hp hb = go (eqb p 48) (eqb p 0) refl refl
   where
-    go : (t u : Bool) → eqb p 48 ≡ t → eqb p 0 ≡ u → allowed (samplePlace p) b ≡ true → bitAnd b (maskOf p) ≡ p
-    go true u q r h =
-        let z : p ≡ 48 = eqb-true p 48 q in
-        let w = both (leb 48 b) (leb b 57) (rw q at h) in
-        let first : 48 ≤ b = leb-true 48 b (w .0) in
-        let last : b ≤ 57 = leb-true b 57 (w .1) in
-        let few : b < 64 = omega arith in
-        rw q (high-half b ∙ high-three b first few ∙ sym z)
-    go false true q r h = rw (q, r) (and-zero-r b ∙ sym (eqb-true p 0 r))
-    go false false q r h =
-        let same : b ≡ p = eqb-true b p (rw (q, r, lt-ltb p 256 hp) at h) in
-        let byte : b % 256 ≡ b = omega arith in
-        rw (q, r) (low-byte b ∙ byte ∙ same)
+    go : (t u : Bool) → eqb p 48 ≡ t → eqb p 0 ≡ u
+        → clear 256 (moreOf p) (highOf p) (bitXor b p) ≡ allowed (samplePlace p) b
+    go true u q r = rw (q, eqb-true p 48 q) (digit-test b hb)
+    go false true q r = rw (q, r)
+        (ap (λ (n : ℕ). eqb n 0) (and-zero-r (bitOr (bitXor b p) ((bitXor b p + 0) % 256))))
+    go false false q r =
+        rw (q, r) (zero-test (bitXor b p) (xor-lt 8 b p hb hp) ∙ same-xor b p ∙ sym (fixed-test p b hp))
+
+-- a byte that passes is one still with that number added
+pub no-carry : (p x : ℕ) → x < 256 → clear 256 (moreOf p) (highOf p) x ≡ true → x + moreOf p < 256
+unfolding bySample
+no-carry p x h = go (eqb p 48) (eqb p 0)
+  where
+    test : ℕ → ℕ → ℕ → Bool
+    test more high x = cond (clear 256 more high x) (ltb (x + more) 256) true
+
+    kept : (more high : ℕ) → T (below 256 (test more high)) → clear 256 more high x ≡ true → x + more < 256
+    kept more high t k = ltb→lt (x + more) 256 (rw k at (below-at 256 (test more high) t x h))
+
+    go : (t u : Bool) → clear 256 (cond t 118 (cond u 0 127)) (cond t 128 (cond u 0 128)) x ≡ true
+        → x + cond t 118 (cond u 0 127) < 256
+    go true u = kept 118 128 tt
+    go false true = kept 0 0 tt
+    go false false = kept 127 128 tt
+
+-- ---- the byte of a flag
+-- the high bit of a byte that is not 0
+abbrev pub bitOf : ℕ → ℕ
+bitOf x = cond (eqb x 0) 0 128
+
+pub nonzero-bit : (x : ℕ) → x < 256 → bitAnd (bitOr (bitAnd x 127 + 127) x) 128 ≡ bitOf x
+nonzero-bit x h = eqb→eq _ _ (below-at 256 (λ x. eqb (bitAnd (bitOr (bitAnd x 127 + 127) x) 128) (bitOf x)) tt x h)
+
+pub bit-small : (x : ℕ) → bitOf x < 256
+bit-small x = go (eqb x 0)
+  where
+    go : (t : Bool) → cond {A = ℕ} t 0 128 < 256
+    go true = lit< tt
+    go false = lit< tt
+
+pub one-zero : (b p q : ℕ) → eqb (bitAnd (bitOf (bitXor b p)) (bitOf (bitXor b q))) 0 ≡ (eqb b p || eqb b q)
+one-zero b p q = rw (same-xor b p, same-xor b q) (go (eqb b p) (eqb b q))
+  where
+    go : (t u : Bool) → eqb (bitAnd (cond t 0 128) (cond u 0 128)) 0 ≡ (t || u)
+    go true u = refl
+    go false true = refl
+    go false false = refl
+
+pub flag-test : (a b : ℕ) → a < 256 → allowed (flagOf a) b ≡ (eqb b 32 || eqb b a)
+unfolding allowed
+flag-test a b h =
+    let e : (512 + a) % 256 ≡ a = omega arith in
+    rw (
+      le-ltb (512 + a) 256 (omega arith),
+      ne-eqb (512 + a) 256 (λ z. omega arith),
+      ne-eqb (512 + a) 257 (λ z. omega arith),
+      lt-ltb (512 + a) 65536 (omega arith),
+      e,
+    )

@@ -3,6 +3,8 @@ pub mod LayoutLaws
 pub mod PartLaws
 pub mod ByteLaws
 pub mod WordLaws
+pub mod SampleLaws
+pub mod FlagLaws
 pub mod PairLaws
 pub mod TextLaws
 pub mod AcceptLaws

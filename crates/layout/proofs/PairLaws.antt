@@ -10,7 +10,7 @@ use lib.ListN.{length, getD}
 use Rattle.clock_time.proofs.Tests.{both}
 use Rattle.decimal.specs.Decimal.{valueFrom}
 use Rattle.decimal.proofs.DecimalLaws.{digit-range}
-use Rattle.layout.specs.Layout.{digit, FitsLayout, run, number}
+use Rattle.layout.specs.Layout.{digit, places, FitsLayout, run, number}
 use Rattle.layout.specs.Words.{word, lowPair, threeNumbers, numbersAt}
 use Rattle.layout.proofs.LayoutLaws.{allDigits, digit-place}
 use Rattle.layout.proofs.WordLaws.{Bytes, enough-bytes}
@@ -20,15 +20,11 @@ abbrev halves : (n at : ℕ) (s : List ℕ) → List ℕ
 halves zero at s = []
 halves (suc n) at s = getD s at 0 % 16 ∷ halves n (suc at) s
 
-abbrev fifteens : ℕ → List ℕ
-fifteens zero = []
-fifteens (suc n) = 15 ∷ fifteens n
-
-word-halves : (n at : ℕ) (s : List ℕ) → Bytes s → bitAnd (word (run at n s)) (word (fifteens n)) ≡ word (halves n at s)
+word-halves : (n at : ℕ) (s : List ℕ) → Bytes s → bitAnd (word (run at n s)) (word (places n 15)) ≡ word (halves n at s)
 unfolding word
 word-halves zero at s h = and-zero-l 0
 word-halves (suc n) at s h =
-    and-block 8 (word (run (suc at) n s)) (word (fifteens n)) (getD s at 0) 15 (h at) (lit< tt)
+    and-block 8 (word (run (suc at) n s)) (word (places n 15)) (getD s at 0) 15 (h at) (lit< tt)
     ∙ rw (and-mask (getD s at 0) 4, word-halves n (suc at) s h)
 
 -- ten times a word of low halves, and the word moved by a byte: each byte of the sum is the number of a pair
@@ -87,7 +83,7 @@ half-pairs at s =
       third = rw (m, n0, n1, n2, n3, n4, n5, e6) (pair-here _ _ [] (l i6) (l i7));
     }
 
-pub pairs-of : (at : ℕ) (s : List ℕ) → Bytes s → Pairs (bitAnd (word (run at 8 s)) (word (fifteens 8))) at s
+pub pairs-of : (at : ℕ) (s : List ℕ) → Bytes s → Pairs (bitAnd (word (run at 8 s)) (word (places 8 15))) at s
 pairs-of at s h = rw (word-halves 8 at s h) (half-pairs at s)
 
 -- ---- digits

@@ -18,9 +18,13 @@ digit = 256
 abbrev pub free : ℕ
 free = 257
 
+-- the place of a flag, by the number of its letter
+abbrev pub flagOf : ℕ → ℕ
+flagOf a = 512 + a
+
 -- the place of a flag
 abbrev pub flag : Char → ℕ
-flag a = 512 + code a
+flag a = flagOf (code a)
 
 -- the place of a flag with two letters
 abbrev pub either : Char → Char → ℕ

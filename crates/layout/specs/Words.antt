@@ -1,10 +1,10 @@
 -- Eight bytes at once: a sample that they are held to, and the numbers of three pairs of digits. Assumes nothing.
-use Prim.Native.Nat.{ℕ, suc, _+_, _*_, _%_}
+use Prim.Native.Nat.{ℕ, zero, suc, _+_, _*_, _/_, _%_}
 use mathlib.Core.Bool.{Bool, true, cond}
 use mathlib.Core.List.{List, [], _∷_}
 use lib.Dec.{leb, eqb}
 use lib.ListN.{length, getD}
-use Rattle.layout.specs.Layout.{digit, free, fitsFrom}
+use Rattle.layout.specs.Layout.{digit, free, flagOf, fitsFrom}
 use Rattle.layout.specs.declared.words.ThreeNumbers.{ThreeNumbers}
 
 -- the number whose digits to the base 256 are these bytes, the lowest first
@@ -36,6 +36,20 @@ abbrev pub eachBySample : ℕ → ℕ → ℕ → List ℕ → List ℕ
 eachBySample forDigit forAny forFixed [] = []
 eachBySample forDigit forAny forFixed (p ∷ ps) =
     bySample forDigit forAny forFixed p ∷ eachBySample forDigit forAny forFixed ps
+
+-- the letters of flags, and the byte after them, as places of a layout
+abbrev pub flagPlaces : List ℕ → ℕ → List ℕ
+flagPlaces [] last = last ∷ []
+flagPlaces (a ∷ letters) last = flagOf a ∷ flagPlaces letters last
+
+-- each byte from a place on is its letter or a blank, and the byte after these is the last
+unfoldable pub flagsFit : ℕ → List ℕ → ℕ → List ℕ → Bool
+flagsFit at letters last s = fitsFrom true at (flagPlaces letters last) (enough at s)
+
+-- of the n lowest bytes of a word, the high bits of those that are not 0
+unfoldable pub nonzeroBytes : ℕ → ℕ → ℕ
+nonzeroBytes zero w = 0
+nonzeroBytes (suc n) w = nonzeroBytes n (w / 256) * 256 + cond (eqb (w % 256) 0) 0 128
 
 -- the number of two bytes by their low halves: those of digits are their numbers
 unfoldable pub lowPair : ℕ → List ℕ → ℕ

@@ -3,6 +3,7 @@ ghost use mathlib.Core.Path.{_≡_};
 ghost use mathlib.Core.List.{[], _∷_};
 ghost use Rattle.layout.specs.Layout.{run};
 ghost use Rattle.layout.specs.Words.{word, enough, sampleFits, bySample, eachBySample, numbersAt};
+ghost use Rattle.layout.specs.Words.{flagsFit, nonzeroBytes};
 
 // The numbers of three pairs of digits: of a date, of a time.
 pub struct ThreeNumbers {
@@ -87,7 +88,8 @@ fn join_by_sample(
 }
 
 // Whether the eight bytes from a place on are as a sample says: `0` for a digit, 0 for any byte, any other byte for
-// itself. Digits are the bytes whose high half is 3, before and after 6 is added to them.
+// itself. A byte's difference from the sample, bit by bit, is at most 9 at a digit and 0 at a fixed byte: a greater one
+// has the high bit, or gets it when 118 or 127 is added.
 pub fn eight_fit(
     s: &[u8],
     at: usize,
@@ -104,10 +106,41 @@ pub fn eight_fit(
 {
     let bytes = word_at(s, at);
     let sample = join(a, b, c, d, e, f, g, h);
-    let mask = join_by_sample(a, b, c, d, e, f, g, h, 240, 0, 255);
-    let six = join_by_sample(a, b, c, d, e, f, g, h, 6, 0, 0);
-    let more = std::num::wrapping_add_u64(bytes, six);
-    (bytes & mask == sample) & (more & mask == sample)
+    let more = join_by_sample(a, b, c, d, e, f, g, h, 118, 0, 127);
+    let high = join_by_sample(a, b, c, d, e, f, g, h, 128, 0, 128);
+    let difference = bytes ^ sample;
+    (difference | std::num::wrapping_add_u64(difference, more)) & high == 0
+}
+
+// The high bit of each byte that is not 0: 127 added to the seven low bits sets it, or it is set already.
+fn nonzero(w: u64) -> u64
+    ensures { λ r. ⌜ r ≡ nonzeroBytes 8 w ⌝ }
+{
+    let low = join(127, 127, 127, 127, 127, 127, 127, 127);
+    let high = join(128, 128, 128, 128, 128, 128, 128, 128);
+    (((w & low) + low) | w) & high
+}
+
+// Whether each of the seven bytes from a place on is its letter or a blank, and the eighth is the last byte: then no
+// byte differs from both. No byte is tested by itself, since a branch on a flag can't be foreseen.
+pub fn flags_fit(
+    s: &[u8],
+    at: usize,
+    a: u8,
+    b: u8,
+    c: u8,
+    d: u8,
+    e: u8,
+    f: u8,
+    g: u8,
+    last: u8,
+) -> bool
+    ensures { λ r. ⌜ r ≡ flagsFit at (a ∷ b ∷ c ∷ d ∷ e ∷ f ∷ g ∷ []) last (now (s .entry)) ⌝ }
+{
+    let bytes = word_at(s, at);
+    let from_blanks = bytes ^ join(32, 32, 32, 32, 32, 32, 32, last);
+    let from_letters = bytes ^ join(a, b, c, d, e, f, g, last);
+    nonzero(from_blanks) & nonzero(from_letters) == 0
 }
 
 // The numbers of three pairs of digits from a place on, each with a byte after it; 0 where there are no eight bytes.

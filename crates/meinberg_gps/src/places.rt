@@ -6,27 +6,12 @@ ghost use lib.ListN.{length};
 ghost use Rattle.layout.specs.Layout.{run, fitsFrom};
 ghost use Rattle.meinberg_gps.specs.Gps.{gpsLayout};
 
-// Whether each flag is its letter or a blank.
-fn flags_fit(s: &[u8]) -> bool
-    requires { ⌜ length (now s) ≡ 66 ⌝ }
-    ensures { λ r. ⌜ r ≡ fitsFrom true 32 (run 32 7 gpsLayout) (now (s .entry)) ⌝ }
-{
-    ((s[32] == b' ') | (s[32] == b'#'))
-        & ((s[33] == b' ') | (s[33] == b'*'))
-        & ((s[34] == b' ') | (s[34] == b'S'))
-        & ((s[35] == b' ') | (s[35] == b'!'))
-        & ((s[36] == b' ') | (s[36] == b'A'))
-        & ((s[37] == b' ') | (s[37] == b'R'))
-        & ((s[38] == b' ') | (s[38] == b'L'))
-}
-
 // Whether every fixed byte after the flags stands.
 fn rest_fits(s: &[u8]) -> bool
     requires { ⌜ length (now s) ≡ 66 ⌝ }
-    ensures { λ r. ⌜ r ≡ fitsFrom true 39 (run 39 27 gpsLayout) (now (s .entry)) ⌝ }
+    ensures { λ r. ⌜ r ≡ fitsFrom true 40 (run 40 26 gpsLayout) (now (s .entry)) ⌝ }
 {
-    (s[39] == b';')
-        & (s[40] == b' ')
+    (s[40] == b' ')
         & (s[43] == b'.')
         & (s[49] == b' ')
         & (s[53] == b'.')
@@ -44,6 +29,6 @@ pub(crate) fn fits(s: &[u8]) -> bool
         & words::eight_fit(s, 8, b'0', b';', b' ', b'0', b';', b' ', b'0', b'0')
         & words::eight_fit(s, 16, b':', b'0', b'0', b':', b'0', b'0', b';', b' ')
         & words::eight_fit(s, 24, 0, b'0', b'0', b':', b'0', b'0', b';', b' ')
-        & flags_fit(s)
+        & words::flags_fit(s, 32, b'#', b'*', b'S', b'!', b'A', b'R', b'L', b';')
         & rest_fits(s)
 }

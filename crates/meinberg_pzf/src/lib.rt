@@ -74,14 +74,7 @@ fn fits(s: &[u8]) -> bool
     words::eight_fit(s, 0, 2, b'0', b'0', b'.', b'0', b'0', b'.', b'0')
         & words::eight_fit(s, 8, b'0', b';', b' ', b'0', b';', b' ', b'0', b'0')
         & words::eight_fit(s, 16, b':', b'0', b'0', b':', b'0', b'0', b';', b' ')
-        & ((s[24] == b' ') | (s[24] == b'U'))
-        & ((s[25] == b' ') | (s[25] == b'#'))
-        & ((s[26] == b' ') | (s[26] == b'*'))
-        & ((s[27] == b' ') | (s[27] == b'S'))
-        & ((s[28] == b' ') | (s[28] == b'!'))
-        & ((s[29] == b' ') | (s[29] == b'A'))
-        & ((s[30] == b' ') | (s[30] == b'R'))
-        & (s[31] == 3)
+        & words::flags_fit(s, 24, b'U', b'#', b'*', b'S', b'!', b'A', b'R', 3)
 }
 
 // The error of a string that does not fit.

@@ -1,38 +1,32 @@
--- `meinberg_pzf::fits` meets its contract: it is the layout's own test, eight places at once. Assumes nothing.
+-- `meinberg_pzf::fits` meets its contract: it is the layout's own test, eight places at once, and the length says that each has
+-- its eight bytes. Assumes nothing.
 use borrow.Author.Needs.{needs}
-use native.Mathlib.Omega.{arith}
-use mathlib.Core.Path.{_≡_, _∙_}
 use mathlib.Core.Bool.{true}
 use mathlib.Core.List.{[], _∷_}
 use denote.Ref.{now}
-use lib.ListN.{length}
-use Rattle.decimal.specs.Decimal.{isDigit}
 use Rattle.layout.specs.Ascii.{ascii}
-use Rattle.layout.specs.Layout.{allowed, fitsFrom, run}
-use Rattle.layout.specs.Words.{samplePlace}
+use Rattle.layout.specs.Layout.{fitsFrom}
+use Rattle.layout.specs.Words.{enough, samplePlace, sampleFits, flagsFit}
 use Rattle.layout.proofs.PartLaws.{parts-fit}
-use Rattle.layout.proofs.WordLaws.{sample-fits}
 use Rattle.meinberg_pzf.specs.Pzf.{pzfLayout}
 use Rattle.meinberg_pzf.proofs.fits.Statement.{statement}
 use Rattle.meinberg_pzf.proofs.fits.Tie as tie
 
 returns : tie.Need-returns
-unfolding fitsFrom allowed isDigit ascii pzfLayout samplePlace
+unfolding fitsFrom ascii pzfLayout enough samplePlace sampleFits flagsFit
 returns c =
-    let x = c .before .before .before .before .before .before .before .before .before .before .before .before in
-    let d = x .before .before .before in
+    let d = c .before in
     let e = d .before in
     let f = e .before in
     let start = f .before .before in
-    let s = now (start .args .s) in
-    let long : length s ≡ 32 = start .pre in
-    let part3 : d .eight-fit3 .result ≡ fitsFrom true 16 (run 16 8 pzfLayout) s =
-    d .eight-fit3 .ensures ∙ sample-fits 16 _ s (omega arith) in
-    let part2 : e .eight-fit2 .result ≡ fitsFrom true 8 (run 8 8 pzfLayout) s =
-    e .eight-fit2 .ensures ∙ sample-fits 8 _ s (omega arith) in
-    let part1 : f .eight-fit .result ≡ fitsFrom true 0 (run 0 8 pzfLayout) s =
-    f .eight-fit .ensures ∙ sample-fits 0 _ s (omega arith) in
-    rw (part3, part2, part1) (parts-fit (8 ∷ 8 ∷ 8 ∷ []) true 0 pzfLayout s)
+    rw (
+      c .flags-fit .ensures,
+      d .eight-fit3 .ensures,
+      e .eight-fit2 .ensures,
+      f .eight-fit .ensures,
+      start .pre,
+    )
+    (parts-fit (8 ∷ 8 ∷ 8 ∷ 8 ∷ []) true 0 pzfLayout (now (start .args .s)))
 
 pub fits-spec : {M : Type 1} → statement M
 fits-spec =
@@ -41,19 +35,5 @@ fits-spec =
     (λ c κs. search needs)
     (λ c κs. search needs)
     (λ c κs. search needs)
-    (λ c. search needs)
-    (λ c. search needs)
-    (λ c. search needs)
-    (λ c. search needs)
-    (λ c. search needs)
-    (λ c. search needs)
-    (λ c. search needs)
-    (λ c. search needs)
-    (λ c. search needs)
-    (λ c. search needs)
-    (λ c. search needs)
-    (λ c. search needs)
-    (λ c. search needs)
-    (λ c. search needs)
-    (λ c. search needs)
+    (λ c κs. search needs)
     returns)

@@ -1,12 +1,12 @@
 -- `layout::words::eight_fit` meets its contract. Assumes nothing.
 use borrow.Author.Needs.{needs}
 use native.Mathlib.Omega.{arith}
-use mathlib.Core.Path.{refl}
 use Prim.Native.Nat.{ℕ}
 use mathlib.Core.List.{List, [], _∷_}
 use denote.Ref.{now}
 use Rattle.layout.specs.Words.{enough, sampleFits}
-use Rattle.layout.proofs.WordLaws.{Bytes, eight-bytes, bytes-enough, eight-test}
+use Rattle.layout.proofs.WordLaws.{Bytes, bytes-of, bytes-enough}
+use Rattle.layout.proofs.SampleLaws.{test-word}
 use Rattle.layout.proofs.words.eight_fit.Statement.{statement}
 use Rattle.layout.proofs.words.eight_fit.Tie as tie
 
@@ -14,28 +14,25 @@ abbrev sample : tie.Start → List ℕ
 sample c = let x = c .args in x .a ∷ x .b ∷ x .c ∷ x .d ∷ x .e ∷ x .f ∷ x .g ∷ x .h ∷ []
 
 sample-bytes : (c : tie.Start) → Bytes (sample c)
-sample-bytes c =
-    let x = c .args in
-    eight-bytes (x .a) (x .b) (x .c) (x .d) (x .e) (x .f) (x .g) (x .h) (omega arith) (omega arith) (omega arith)
-    (omega arith) (omega arith) (omega arith) (omega arith) (omega arith)
+sample-bytes c = bytes-of (sample c) (search needs)
 
 returns : tie.Need-returns
 unfolding sampleFits
 returns c =
-    let six = c .before in
-    let mask = six .before in
-    let text = mask .before in
+    let high = c .before in
+    let more = high .before in
+    let text = more .before in
     let bytes = text .before in
     let known = bytes .before in
     let a = known .before .args in
     simp (
       c .wrapping-add-u64 .ensures,
-      six .join-by-sample2 .ensures,
-      mask .join-by-sample .ensures,
+      high .join-by-sample2 .ensures,
+      more .join-by-sample .ensures,
       text .join .ensures,
       bytes .word-at .ensures,
     )
-    (eight-test (sample (known .before)) (enough (a .at) (now (a .s))) (a .at) refl (sample-bytes (known .before))
+    (test-word (sample (known .before)) (enough (a .at) (now (a .s))) (a .at) (sample-bytes (known .before))
     (bytes-enough (a .at) (now (a .s)) (λ i. omega (arith, known .shared-slice-known .given i))))
 
 pub eight-fit-spec : {M : Type 1} → statement M

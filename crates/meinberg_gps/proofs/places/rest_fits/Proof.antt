@@ -12,14 +12,13 @@ use Rattle.meinberg_gps.proofs.places.rest_fits.Tie as tie
 returns : tie.Need-returns
 unfolding fitsFrom allowed ascii gpsLayout
 returns c =
-    let start = c .before .before .before .before .before .before .before .before in
-    settled-fit true 39 (run 39 27 gpsLayout) (now (start .args .s))
+    let start = c .before .before .before .before .before .before .before in
+    settled-fit true 40 (run 40 26 gpsLayout) (now (start .args .s))
 
 pub rest-fits-spec : {M : Type 1} → statement M
 rest-fits-spec =
     tie.close
     (tie.spec
-    (λ c. search needs)
     (λ c. search needs)
     (λ c. search needs)
     (λ c. search needs)

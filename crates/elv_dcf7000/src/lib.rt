@@ -41,7 +41,7 @@ const ELV: [u32; 21] = [
     13,
 ];
 
-// Whether every place has a byte that may stand there.
+// Whether every place has a byte that may stand there. The last eight places begin with three that are tested already.
 fn fits(s: &[u8]) -> bool
     requires { ⌜ length (now s) ≡ 21 ⌝ }
     ensures { λ r. ⌜ r ≡ fitsFrom true 0 elvLayout (now (s .entry)) ⌝ }

@@ -1,5 +1,5 @@
 -- The tests of one byte on its bits, and what they say of it. Assumes nothing.
-use Prim.Native.Nat.{ℕ, _+_, _*_, _%_, _<_}
+use Prim.Native.Nat.{ℕ, _+_, _%_, _<_}
 use native.Mathlib.Omega.{arith}
 use native.Mathlib.Decide.{ℕ-discrete}
 use mathlib.Core.Path.{_≡_, refl, sym, ap, _∙_}
@@ -35,14 +35,15 @@ unfolding allowed
 fixed-test p b h = rw (lt-ltb p 256 h)
 
 -- ---- the byte of a sample
+-- what the code adds to a difference from it, and the bits that it looks at
 abbrev pub moreOf : ℕ → ℕ
 moreOf p = bySample 118 0 127 p
 
 abbrev pub highOf : ℕ → ℕ
 highOf p = bySample 128 0 128 p
 
--- the code's test of a number below a size that is the difference from a sample's: no bit of `high` is set, neither in
--- it nor once `more` is added
+-- the code's test of a difference, as of a number below a size: no bit of `high` is set, neither in it nor in its sum
+-- with `more`
 abbrev pub clear : ℕ → ℕ → ℕ → ℕ → Bool
 clear size more high x = eqb (bitAnd (bitOr x ((x + more) % size)) high) 0
 
@@ -53,6 +54,7 @@ digit-test = same-test (λ b. clear 256 118 128 (bitXor b 48)) (λ b. isDigit b)
 zero-test : (x : ℕ) → x < 256 → clear 256 127 128 x ≡ eqb x 0
 zero-test = same-test (clear 256 127 128) (λ x. eqb x 0) tt
 
+-- the byte may stand there exactly if its difference passes
 pub sample-test : (p b : ℕ) → p < 256 → b < 256
     → clear 256 (moreOf p) (highOf p) (bitXor b p) ≡ allowed (samplePlace p) b
 unfolding bySample samplePlace allowed
@@ -66,22 +68,30 @@ sample-test p b hp hb = go (eqb p 48) (eqb p 0) refl refl
     go false false q r =
         rw (q, r) (zero-test (bitXor b p) (xor-lt 8 b p hb hp) ∙ same-xor b p ∙ sym (fixed-test p b hp))
 
--- a byte that passes is one still with that number added
-pub no-carry : (p x : ℕ) → x < 256 → clear 256 (moreOf p) (highOf p) x ≡ true → x + moreOf p < 256
+-- what holds of the numbers for a digit, for any byte and for a fixed one
+each-rule : (P : ℕ → ℕ → Type 0) → P 118 128 → P 0 0 → P 127 128 → (p : ℕ) → P (moreOf p) (highOf p)
 unfolding bySample
-no-carry p x h = go (eqb p 48) (eqb p 0)
+each-rule P forDigit forAny forFixed p = go (eqb p 48) (eqb p 0)
+  where
+    go : (t u : Bool) → P (cond t 118 (cond u 0 127)) (cond t 128 (cond u 0 128))
+    go true u = forDigit
+    go false true = forAny
+    go false false = forFixed
+
+pub high-small : (p : ℕ) → highOf p < 256
+high-small = each-rule (λ more high. high < 256) (lit< tt) (lit< tt) (lit< tt)
+
+-- a difference that passes is a byte still with that number added
+pub no-carry : (p x : ℕ) → x < 256 → clear 256 (moreOf p) (highOf p) x ≡ true → x + moreOf p < 256
+no-carry p x h =
+    each-rule (λ more high. clear 256 more high x ≡ true → x + more < 256) (kept 118 128 tt) (kept 0 0 tt)
+    (kept 127 128 tt) p
   where
     test : ℕ → ℕ → ℕ → Bool
     test more high x = cond (clear 256 more high x) (ltb (x + more) 256) true
 
     kept : (more high : ℕ) → T (below 256 (test more high)) → clear 256 more high x ≡ true → x + more < 256
     kept more high t k = ltb→lt (x + more) 256 (rw k at (below-at 256 (test more high) t x h))
-
-    go : (t u : Bool) → clear 256 (cond t 118 (cond u 0 127)) (cond t 128 (cond u 0 128)) x ≡ true
-        → x + cond t 118 (cond u 0 127) < 256
-    go true u = kept 118 128 tt
-    go false true = kept 0 0 tt
-    go false false = kept 127 128 tt
 
 -- ---- the byte of a flag
 -- the high bit of a byte that is not 0
@@ -98,6 +108,7 @@ bit-small x = go (eqb x 0)
     go true = lit< tt
     go false = lit< tt
 
+-- a byte is one of two exactly if one of its differences from them is 0
 pub one-zero : (b p q : ℕ) → eqb (bitAnd (bitOf (bitXor b p)) (bitOf (bitXor b q))) 0 ≡ (eqb b p || eqb b q)
 one-zero b p q = rw (same-xor b p, same-xor b q) (go (eqb b p) (eqb b q))
   where

@@ -3,33 +3,24 @@ use Prim.Native.Nat.{ℕ, suc, _+_, _*_, _/_, _%_, _^_, _<_}
 use native.Mathlib.Nat.{pow-suc, one-le-pow}
 use native.Mathlib.Omega.{arith}
 use mathlib.Core.Path.{_≡_, refl, sym, ap, ap₂, _∙_}
-use mathlib.Core.Bool.{Bool, true, false, cond, _&&_}
+use mathlib.Core.Bool.{Bool, true, false, _&&_}
 use mathlib.Core.List.{List, [], _∷_}
 use lib.Arith.{mod-mul}
 use lib.Bits.{bitAnd, bitOr, bitXor, or-block, or-lt, xor-block, xor-lt}
 use lib.Dec.{eqb, lit<}
 use lib.ListN.{length, getD}
 use Rattle.layout.specs.Layout.{allowed, fitsFrom, run}
-use Rattle.layout.specs.Words.{word, bySample, eachBySample, samplePlace, samplePlaces}
-use Rattle.layout.proofs.ByteLaws.{moreOf, highOf, clear, sample-test, no-carry}
+use Rattle.layout.specs.Words.{word, eachBySample, samplePlace, samplePlaces}
+use Rattle.layout.proofs.ByteLaws.{moreOf, highOf, clear, sample-test, high-small, no-carry}
 use Rattle.layout.proofs.PartLaws.{fits-and}
 use Rattle.layout.proofs.WordLaws.{Bytes, zero-block}
 
--- what the code adds to the bytes of a sample, and the bits that it looks at
+-- the numbers for the bytes of a sample
 abbrev pub mores : List ℕ → List ℕ
 mores ps = eachBySample 118 0 127 ps
 
 abbrev pub highs : List ℕ → List ℕ
 highs ps = eachBySample 128 0 128 ps
-
-high-small : (p : ℕ) → highOf p < 256
-unfolding bySample
-high-small p = go (eqb p 48) (eqb p 0)
-  where
-    go : (t u : Bool) → cond {A = ℕ} t 128 (cond u 0 128) < 256
-    go true u = lit< tt
-    go false true = lit< tt
-    go false false = lit< tt
 
 -- the lowest byte r of a difference, and the others x if it passes: then its sum carries nothing over to theirs
 clear-step : (size m h x n k r : ℕ) → 0 < size → r < 256 → k < 256 → (clear 256 n k r ≡ true → r + n < 256)

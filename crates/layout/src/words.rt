@@ -1,4 +1,4 @@
-// Eight bytes at once, as one number: whether they are as a sample says, and the numbers of three pairs of digits.
+// Eight bytes at once, as one number: whether they fit a sample or flags, and the numbers of three pairs of digits.
 ghost use mathlib.Core.Path.{_≡_};
 ghost use mathlib.Core.List.{[], _∷_};
 ghost use Rattle.layout.specs.Layout.{run};

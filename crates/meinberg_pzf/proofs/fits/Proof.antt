@@ -1,5 +1,5 @@
--- `meinberg_pzf::fits` meets its contract: it is the layout's own test, eight places at once, and the length says that each has
--- its eight bytes. Assumes nothing.
+-- `meinberg_pzf::fits` meets its contract: it is the layout's own test, eight places at once, and the string is
+-- long enough for each. Assumes nothing.
 use borrow.Author.Needs.{needs}
 use mathlib.Core.Bool.{true}
 use mathlib.Core.List.{[], _∷_}

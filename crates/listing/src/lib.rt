@@ -1,5 +1,4 @@
 // The listing of the strings in a stream of bytes, line by line.
-use calendar::unix_time::UnixTime;
 use clock_time::ClockTime;
 use clock_time::WriteAnswer;
 use framing::Framer;
@@ -8,7 +7,6 @@ ghost use Prim.Native.Nat.{_+_, _≤_};
 ghost use lib.ListN.{length};
 ghost use lib.Seq.{paste};
 ghost use Rattle.clock_time.specs.Writing as writing;
-ghost use Rattle.calendar.specs.UnixTime.{isValid};
 ghost use Rattle.listing.specs.Line.{writeLine};
 ghost use Rattle.listing.specs.Listing.{start, outcome, listOf, writeTotals};
 ghost use Rattle.listing.specs.Told.{Tells};
@@ -47,22 +45,13 @@ struct Told {
     taken: usize,
 }
 
-fn is_valid(t: ClockTime) -> bool
-    ensures { λ r. ⌜ r ≡ isValid t ⌝ }
-{
-    match calendar::unix_time::unix_time(t) {
-        UnixTime::At(_) => true,
-        UnixTime::Refused(_) => false,
-    }
-}
-
 // Writes the line of a clock time, its line feed included, to the front of `out`: 23 where its fields are no valid
 // reading, 20 where there is no room for 35 bytes.
 pub fn write_line(t: ClockTime, out: &mut [u8]) -> WriteAnswer
     ensures { λ r. ⌜ writing.outcome r (now (out .exit)) ≡ writeLine t (now (out .entry)) ⌝ }
 {
     let text = line::line_of(t);
-    clock_time::write_bytes(is_valid(t), &text, out)
+    clock_time::write_bytes(calendar::unix_time::is_valid(t), &text, out)
 }
 
 // Writes the line of the totals, its line feed included, to the front of `out`: 20 where there is no room for it.

@@ -10,9 +10,9 @@ use Rattle.decimal.specs.Decimal.{isDigit, valueFrom}
 use Rattle.layout.specs.Ascii.{ascii}
 use Rattle.layout.specs.Layout.{allowed, errorAt, offence, first}
 use Rattle.layout.specs.Text.{clockChecks, textChecks, readText}
-use Rattle.meinberg_gps.specs.Signed.{signed, signHolds}
-use Rattle.meinberg_gps.specs.Aligned.{areDigits, rightAligned}
-use Rattle.meinberg_gps.specs.Position.{angleDigits, positionDigits, inRange, positionFault, angleOf, positionOf}
+use Rattle.signed.specs.Signed.{signed, signHolds}
+use Rattle.gps_position.specs.Aligned.{areDigits, rightAligned}
+use Rattle.gps_position.specs.Position.{angleDigits, positionDigits, inRange, positionFault, angleOf, positionOf}
 use Rattle.meinberg_gps.specs.Gps.{gpsLayout, offsetFault, offsetOf, leapMismatch, clockOf, gpsFields, gps, readGps}
 use Rattle.dcf77.specs.Marks.{allSure, binary, twoDigits, longs, isOdd}
 use Rattle.dcf77.specs.Minute.{announced, minuteFields, minuteChecks, readMinute, runNumber}

@@ -9,7 +9,7 @@ use Rattle.clock_time.specs.declared.Position.{Position}
 use Rattle.layout.specs.Layout.{FitsLayout}
 use Rattle.layout.specs.Text.{clockChecks}
 use Rattle.layout.proofs.TextLaws.{laterChecks, read-fitting}
-use Rattle.meinberg_gps.specs.Position.{positionFault, positionOf, readPosition}
+use Rattle.gps_position.specs.Position.{positionFault, positionOf, readPosition}
 use Rattle.meinberg_gps.specs.Gps.{gpsLayout, offsetFault, leapMismatch, clockOf, readClock}
 use Rattle.meinberg_gps.specs.Gps.{gpsFields, gps, readGps}
 use Rattle.meinberg_gps.specs.declared.GpsTime.{GpsTime}

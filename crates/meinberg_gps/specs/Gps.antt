@@ -14,12 +14,11 @@ use Rattle.clock_time.specs.declared.Position.{Position}
 use Rattle.calendar.specs.Date.{fullYear}
 use Rattle.decimal.specs.Decimal.{digits}
 use Rattle.layout.specs.Ascii.{ascii}
-use Rattle.layout.specs.Layout.{digit, free, flag, places, number, has}
+use Rattle.layout.specs.Layout.{digit, free, flag, places, run, number, has}
 use Rattle.layout.specs.Text.{Format, clockChecks, readText, writeText, letter}
-use Rattle.meinberg_gps.specs.Signed.{signed, signHolds, signByte}
-use Rattle.meinberg_gps.specs.Aligned.{aligned}
-use Rattle.meinberg_gps.specs.Position as place
-use Rattle.meinberg_gps.specs.Position.{positionFault, positionOf, angleText}
+use Rattle.signed.specs.Signed.{signed, signHolds, signByte}
+use Rattle.gps_position.specs.Position.{positionFault, positionOf, positionText}
+use Rattle.meinberg_pzf.specs.Pzf.{pzfText}
 use Rattle.meinberg_gps.specs.declared.GpsTime.{GpsTime}
 use Rattle.meinberg_gps.specs.declared.GpsAnswer.{GpsAnswer}
 use Rattle.meinberg_gps.specs.declared.GpsAnswer.the-variants.{Read, Refused}
@@ -88,34 +87,14 @@ readClock s p = checked (clockChecks (clockOf s) (leapMismatch s)) (record { tim
 unfoldable pub gpsFields : List ℕ → GpsTime
 gpsFields s = record { time = clockOf s; position = positionOf s }
 
--- the letters of the flags, `L` where the second is 60
-unfoldable pub flagsText : ClockTime → List ℕ
-flagsText t =
-    letter (t .unsynchronised) "#"
-    ∷ letter (t .unverified) "*"
-    ∷ letter (t .«summer_time») "S"
-    ∷ letter (t .«dst_change_announced») "!"
-    ∷ letter (t .«leap_second_announced») "A"
-    ∷ letter (t .«alternate_antenna») "R"
-    ∷ letter (eqb (t .second) 60) "L"
-    ∷ []
-
--- the layout with the fields of a clock time in it, and the bytes of an offset, of flags, of two angles and of a height
-unfoldable pub lineOf : ClockTime → List ℕ → List ℕ → List ℕ → List ℕ → List ℕ → List ℕ
-lineOf t offset flags latitude longitude height =
-    ascii "\u{2}" ++ digits 2 (t .day) ++ ascii "." ++ digits 2 (t .month) ++ ascii "." ++ digits 2 (t .year)
-    ++ ascii "; " ++ digits 1 (t .weekday)
-    ++ ascii "; " ++ digits 2 (t .hour) ++ ascii ":" ++ digits 2 (t .minute) ++ ascii ":" ++ digits 2 (t .second)
-    ++ ascii "; " ++ offset
-    ++ ascii "; " ++ flags
-    ++ ascii "; " ++ latitude ++ ascii " " ++ longitude ++ ascii " " ++ height ++ ascii "m\u{3}"
-
+-- the only string that could be read as a clock time and a position: "As PZF up to place 22" (01, Meinberg and ELV
+-- strings), the flags from u to a as there, and `L` where the second is 60
 unfoldable pub gpsText : GpsTime → List ℕ
 gpsText g =
     let t = g .time in
-    let p = g .position in
-    lineOf t (offsetText (t .«utc_offset»)) (flagsText t)
-    (angleText place.latitude (p .latitude)) (angleText place.longitude (p .longitude)) (aligned 4 (p .height))
+    run 0 24 (pzfText t) ++ offsetText (t .«utc_offset»)
+    ++ ascii "; " ++ run 25 6 (pzfText t) ++ (letter (eqb (t .second) 60) "L" ∷ [])
+    ++ ascii "; " ++ positionText (g .position) ++ ascii "m\u{3}"
 
 unfoldable pub sameGps : GpsTime → GpsTime → Bool
 sameGps a b = sameTime (a .time) (b .time) && samePosition (a .position) (b .position)

@@ -1,25 +1,21 @@
 // The Meinberg GPS string.
-use crate::position::PositionAnswer;
 use clock_time::ClockTime;
 use clock_time::Error;
 use clock_time::Position;
 use clock_time::WriteAnswer;
+use gps_position::PositionAnswer;
 use layout::ReadAnswer;
 use layout::words;
 ghost use mathlib.Core.Path.{_≡_};
 ghost use lib.ListN.{length};
 ghost use Rattle.clock_time.specs.Writing.{outcome};
 ghost use Rattle.layout.specs.Layout.{FitsLayout};
-ghost use Rattle.clock_time.specs.Writing.{isAccepted};
 ghost use Rattle.meinberg_gps.specs.Gps.{gpsLayout, leapMismatch, clockOf, readClock, readGps, gpsAnswer};
-ghost use Rattle.meinberg_gps.specs.Gps.{sameGps, writeGps};
+ghost use Rattle.meinberg_gps.specs.Gps.{writeGps};
 
-mod digits;
 mod offset;
 pub mod parts;
 mod places;
-mod position;
-mod signed;
 mod table;
 mod text;
 
@@ -90,7 +86,7 @@ fn read_fitting(s: &[u8]) -> GpsAnswer
     if offset::is_faulty(s) {
         return GpsAnswer::Refused(Error::UtcOffset);
     }
-    match position::read(s) {
+    match gps_position::read_position(s) {
         PositionAnswer::Read(p) => read_clock(s, p),
         PositionAnswer::Refused(e) => GpsAnswer::Refused(e),
     }
@@ -110,32 +106,12 @@ pub fn read_gps(s: &[u8]) -> GpsAnswer
     GpsAnswer::Refused(table::first_error(&s[..]))
 }
 
-fn same_gps(a: GpsTime, b: GpsTime) -> bool
-    ensures { λ r. ⌜ r ≡ sameGps a b ⌝ }
-{
-    let time = a.time;
-    let other_time = b.time;
-    let position = a.position;
-    let other_position = b.position;
-    clock_time::same_time(time, other_time) & clock_time::same_position(position, other_position)
-}
-
-// True where `a` is `g`.
-fn is_read_as(a: GpsAnswer, g: GpsTime) -> bool
-    ensures { λ r. ⌜ r ≡ isAccepted sameGps (gpsAnswer a) g ⌝ }
-{
-    match a {
-        GpsAnswer::Read(b) => same_gps(b, g),
-        GpsAnswer::Refused(_) => false,
-    }
-}
-
 // Writes a clock time and a position as a Meinberg GPS string to the front of `out`: 23 where no such string is read as
 // them, 20 where there is no room for 66 bytes.
 pub fn write_gps(g: GpsTime, out: &mut [u8]) -> WriteAnswer
     ensures { λ r. ⌜ outcome r (now (out .exit)) ≡ writeGps g (now (out .entry)) ⌝ }
 {
     let line = text::text_of(g);
-    let readable = is_read_as(read_gps(&line), g);
+    let readable = calendar::unix_time::is_valid(g.time) & gps_position::is_carried(g.position);
     clock_time::write_bytes(readable, &line, out)
 }

@@ -1,5 +1,4 @@
 // The UTC offset of a GPS string.
-use crate::signed;
 use layout::words;
 ghost use mathlib.Core.Path.{_≡_};
 ghost use lib.ListN.{length};

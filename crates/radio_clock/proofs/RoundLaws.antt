@@ -22,10 +22,10 @@ use Rattle.meinberg_pzf.proofs.Theorems as pzf-string
 use Rattle.elv_dcf7000.proofs.Theorems as elv-string
 use Rattle.meinberg_gps.proofs.Theorems as gps-string
 use Rattle.meinberg_gps.specs.Gps.{gps, gpsFields, readGps}
-use Rattle.meinberg_gps.specs.Position.{positionDigits, positionFault, positionOf, latitude, longitude, inRange}
+use Rattle.gps_position.specs.Position.{positionDigits, positionFault, positionOf, latitude, longitude, inRange}
 use Rattle.meinberg_gps.specs.declared.GpsTime.{GpsTime}
-use Rattle.meinberg_gps.proofs.AlignedLaws.{value-small}
-use Rattle.meinberg_gps.proofs.PositionLaws.{position-digits}
+use Rattle.gps_position.proofs.AlignedLaws.{value-small}
+use Rattle.gps_position.proofs.PositionLaws.{position-digits}
 use Rattle.dcf77.specs.Minute.{minuteFields, readMinute}
 use Rattle.dcf77.specs.declared.MinuteTime.{MinuteTime}
 use Rattle.dcf77.proofs.MarkLaws.{small-sure, binary-below}

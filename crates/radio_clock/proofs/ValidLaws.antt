@@ -26,10 +26,10 @@ use Rattle.meinberg_pzf.specs.Pzf.{pzfOffset, pzfFields, pzf, readPzf}
 use Rattle.meinberg_pzf.proofs.Theorems as pzf-string
 use Rattle.elv_dcf7000.specs.Elv.{elvFlags, summerIn, elvOffset, elvFields, elv, readElv}
 use Rattle.elv_dcf7000.proofs.Theorems as elv-string
-use Rattle.meinberg_gps.specs.Signed.{signHolds}
+use Rattle.signed.specs.Signed.{signHolds}
 use Rattle.meinberg_gps.specs.Gps.{offsetSize, offsetFault, offsetOf, clockOf, gpsFields, gps, readGps}
 use Rattle.meinberg_gps.specs.declared.GpsTime.{GpsTime}
-use Rattle.meinberg_gps.proofs.SignedLaws.{sign-limit, signed-size}
+use Rattle.signed.proofs.SignedLaws.{sign-limit, signed-size}
 use Rattle.meinberg_gps.proofs.Theorems as gps-string
 use Rattle.dcf77.specs.Marks.{long, twoDigits}
 use Rattle.dcf77.specs.Minute.{announced, minuteFields, readMinute}

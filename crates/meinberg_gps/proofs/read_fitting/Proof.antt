@@ -15,14 +15,14 @@ returns-2 c =
     let r = c .before .before .before .before in
     let f = r .before .before in
     let read = read-placed (f .before .before .pre .1) (sym (f .is-faulty .ensures) ∙ r .before .if1 .left) in
-    c .read-clock .ensures ∙ sym (rw (← (r .read .ensures), c .before .before .p .given .1) at read)
+    c .read-clock .ensures ∙ sym (rw (← (r .read-position .ensures), c .before .before .p .given .1) at read)
 
 returns-3 : tie.Need-returns-3
 returns-3 c =
     let r = c .before .before .before in
     let f = r .before .before in
     let read = read-placed (f .before .before .pre .1) (sym (f .is-faulty .ensures) ∙ r .before .if1 .left) in
-    sym (rw (← (r .read .ensures), c .before .e .given .1) at read)
+    sym (rw (← (r .read-position .ensures), c .before .e .given .1) at read)
 
 pub read-fitting-spec : {M : Type 1} → statement M
 read-fitting-spec =

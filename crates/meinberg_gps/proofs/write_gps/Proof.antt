@@ -1,25 +1,23 @@
 -- `meinberg_gps::write_gps` meets its contract. Assumes nothing.
 use borrow.Author.Needs.{needs}
-use Rattle.clock_time.specs.Writing.{readsBack, writeBack}
-use Rattle.layout.specs.Text.{writeText}
-use Rattle.meinberg_gps.specs.Gps.{gps, readGps, writeGps}
+use mathlib.Core.Path.{_∙_}
+use Rattle.meinberg_gps.proofs.GpsLaws.{writes}
 use Rattle.meinberg_gps.proofs.write_gps.Statement.{statement}
 use Rattle.meinberg_gps.proofs.write_gps.Tie as tie
 
 returns : tie.Need-returns
-unfolding writeGps writeText writeBack readsBack readGps gps
 returns c =
     let w = c .before .before in
-    let r = w .before .before .before in
-    rw (← (r .before .before .before .text-of .ensures), ← (r .before .read-gps .ensures), ← (r .is-read-as .ensures))
-    (w .write-bytes .ensures)
+    let carried = w .before .before .before in
+    let line = carried .before .before in
+    w .write-bytes .ensures
+    ∙ writes _ (carried .before .is-valid .ensures) (carried .is-carried .ensures) (line .text-of .ensures) _
 
 pub write-gps-spec : {M : Type 1} → statement M
 write-gps-spec =
     tie.close
     (tie.spec
     (λ c κs. search needs)
-    (λ c. search needs)
     (λ c κs. search needs)
     (λ c κs. search needs)
     (λ c. search needs)

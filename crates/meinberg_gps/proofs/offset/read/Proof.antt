@@ -10,7 +10,7 @@ use mir.Val.{SFits}
 use mir.Facts.{toZ-ofZ}
 use borrow.Author.Needs.{sfits-of}
 use Rattle.meinberg_gps.specs.Gps.{offsetOf}
-use Rattle.meinberg_gps.proofs.SignedLaws.{signed-fits}
+use Rattle.signed.proofs.SignedLaws.{signed-fits}
 use Rattle.meinberg_gps.proofs.OffsetLaws.{offset-small}
 use Rattle.meinberg_gps.proofs.offset.read.Statement.{statement}
 use Rattle.meinberg_gps.proofs.offset.read.Tie as tie

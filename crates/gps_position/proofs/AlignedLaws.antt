@@ -1,0 +1,101 @@
+-- Laws of right-aligned numbers, each for any number of places. Assumes nothing.
+use Prim.Native.Nat.{ℕ, zero, suc, _-_, _%_, _^_, _≤_, _<_}
+use native.Mathlib.Decide.{decLt}
+use native.Mathlib.Omega.{arith}
+use mathlib.Core.Path.{_≡_, refl}
+use mathlib.Core.Bool.{Bool, true, false, _&&_, _||_, and-false, or-false, false≢true}
+use mathlib.Core.List.{List, [], _∷_}
+use lib.Dec.{leb, eqb}
+use lib.ListN.{length, getD, List·getD-eq-default}
+use borrow.Author.Tests.{eqb-true, leb-true, le-leb}
+use Rattle.clock_time.proofs.Tests.{both}
+use Rattle.decimal.specs.Decimal.{isDigit, value}
+use Rattle.decimal.proofs.DecimalLaws.{digit-range, Low, value-low}
+use Rattle.gps_position.specs.Aligned.{areDigits, rightAligned, digitsOrBlanks}
+
+-- ---- digits and blanks
+-- a digit or a blank: its low half is the number that it counts as
+pub record Plain (b : ℕ) : Type 0 where
+  pub low : b % 16 ≡ b - 48
+  pub small : b ≤ 57
+
+plain-byte : (b : ℕ) → (isDigit b || eqb b 32) ≡ true → Plain b
+plain-byte b h = go (isDigit b) (eqb b 32) refl refl h
+  where
+    go : (t u : Bool) → isDigit b ≡ t → eqb b 32 ≡ u → (t || u) ≡ true → Plain b
+    go true u e f h = let r = digit-range b e in record { low = omega arith; small = omega arith }
+    go false true e f h = let r = eqb-true b 32 f in record { low = omega arith; small = omega arith }
+    go false false e f h = absurd (false≢true h)
+
+pub plain-at : (s : List ℕ) → digitsOrBlanks s ≡ true → (i : ℕ) → i < length s → Plain (getD s i 0)
+unfolding digitsOrBlanks
+plain-at [] h i j = absurd (omega arith)
+plain-at (b ∷ s) h zero j = plain-byte b (both (isDigit b || eqb b 32) (digitsOrBlanks s) h .0)
+plain-at (b ∷ s) h (suc i) j = plain-at s (both (isDigit b || eqb b 32) (digitsOrBlanks s) h .1) i (omega arith)
+
+digit-plain : (b : ℕ) → isDigit b ≡ true → (isDigit b || eqb b 32) ≡ true
+digit-plain b h = rw h
+
+pub digits-plain : (s : List ℕ) → areDigits s ≡ true → digitsOrBlanks s ≡ true
+unfolding areDigits digitsOrBlanks
+digits-plain [] h = refl
+digits-plain (b ∷ s) h = let w = both (isDigit b) (areDigits s) h in simp (digit-plain b (w .0), digits-plain s (w .1))
+
+pub digits-cons : (b : ℕ) (s : List ℕ) → areDigits (b ∷ s) ≡ true → (48 ≤ b) × (b ≤ 57) × (areDigits s ≡ true)
+unfolding areDigits
+digits-cons b s h =
+    let w = both (isDigit b) (areDigits s) h in
+    let r = digit-range b (w .0) in
+    (r .0, r .1, w .1)
+
+-- ---- right-aligned numbers
+-- how a run of bytes is right-aligned: a digit, or after a blank, or digits that begin with no zero
+pub data Aligned : List ℕ → Type 0 where
+  last : {b : ℕ} → isDigit b ≡ true → Aligned (b ∷ [])
+  blank : {b : ℕ} {s : List ℕ} → b ≡ 32 → Aligned s → Aligned (b ∷ s)
+  high : {b c : ℕ} {s : List ℕ} → 49 ≤ b → b ≤ 57 → areDigits (c ∷ s) ≡ true → Aligned (b ∷ c ∷ s)
+
+pub aligned-how : (s : List ℕ) → rightAligned s ≡ true → Aligned s
+unfolding rightAligned
+aligned-how [] h = absurd (false≢true h)
+aligned-how (b ∷ []) h = last h
+aligned-how (b ∷ c ∷ s) h = go (eqb b 32 && rightAligned (c ∷ s)) refl h (aligned-how (c ∷ s))
+  where
+    go : (t : Bool) → (eqb b 32 && rightAligned (c ∷ s)) ≡ t → (t || leb 49 b && leb b 57 && areDigits (c ∷ s)) ≡ true
+        → (rightAligned (c ∷ s) ≡ true → Aligned (c ∷ s)) → Aligned (b ∷ c ∷ s)
+    go true e h rest = let w = both (eqb b 32) (rightAligned (c ∷ s)) e in blank (eqb-true b 32 (w .0)) (rest (w .1))
+    go false e h rest =
+        let w = both (leb 49 b && leb b 57) (areDigits (c ∷ s)) h in
+        let v = both (leb 49 b) (leb b 57) (w .0) in
+        high (leb-true 49 b (v .0)) (leb-true b 57 (v .1)) (w .1)
+
+aligned-made : {s : List ℕ} → Aligned s → digitsOrBlanks s ≡ true
+unfolding digitsOrBlanks isDigit
+aligned-made (last {b} h) = simp (digit-plain b h)
+aligned-made (blank e a) = rw (e, aligned-made a)
+aligned-made (high {b} {c} {s} lo hi d) =
+    let low : 48 ≤ b = omega arith in
+    rw (le-leb 48 b low, le-leb b 57 hi) (digits-plain (c ∷ s) d)
+
+pub aligned-plain : (s : List ℕ) → rightAligned s ≡ true → digitsOrBlanks s ≡ true
+aligned-plain s h = aligned-made (aligned-how s h)
+
+-- a blank before a right-aligned number changes nothing
+pub aligned-blank : (b : ℕ) (s : List ℕ) → rightAligned (32 ∷ b ∷ s) ≡ rightAligned (b ∷ s)
+unfolding rightAligned
+aligned-blank b s = or-false (rightAligned (b ∷ s))
+
+-- what ends in no digit is not right-aligned
+pub aligned-end : (a b c : ℕ) → rightAligned (a ∷ b ∷ c ∷ 0 ∷ []) ≡ false
+unfolding rightAligned areDigits isDigit
+aligned-end a b c = simp and-false
+
+-- k digits or blanks stand for a number below 10 ^ k
+pub value-small : (s : List ℕ) → digitsOrBlanks s ≡ true → value s < 10 ^ length s
+value-small s h = value-low s (low s h)
+  where
+    low : (s : List ℕ) → digitsOrBlanks s ≡ true → Low s
+    low s h i = elim (decLt i (length s)) [
+      | yes l ↦ plain-at s h i l .small
+      | no l ↦ let out : length s ≤ i = omega arith in omega (arith, List·getD-eq-default s 0 out)
+    ]

@@ -1,0 +1,100 @@
+-- A position that can be said is read as it was written. Assumes nothing.
+use Prim.Native.Nat.{ℕ, _*_, _/_, _^_, _≤_, _<_}
+use Prim.Native.Char.{code}
+use native.Mathlib.Omega.{arith}
+use mathlib.Core.Path.{_≡_, refl, ap}
+use mathlib.Core.Bool.{true, false, _&&_}
+use mathlib.Core.List.{List, [], _∷_}
+use lib.Dec.{leb, eqb, lit<}
+use lib.ListN.{getD}
+use lib.IntN.{ℤ, natAbs}
+use borrow.Author.Tests.{leb-true}
+use Rattle.clock_time.specs.declared.Position.{Position}
+use Rattle.clock_time.proofs.Tests.{both}
+use Rattle.decimal.specs.Decimal.{digits}
+use Rattle.decimal.proofs.DecimalLaws.{valueFrom-append}
+use Rattle.layout.specs.Ascii.{ascii}
+use Rattle.layout.specs.Layout.{run, number}
+use Rattle.signed.specs.Signed.{signByte}
+use Rattle.signed.proofs.SignedLaws.{sign-read, sign-written}
+use Rattle.gps_position.specs.Aligned.{padded, aligned}
+use Rattle.gps_position.specs.Position.{Angle, latitude, longitude, wholePart, decimals, hemisphere, angleSize}
+use Rattle.gps_position.specs.Position.{angleDigits, positionDigits, inRange, positionFault, angleOf, positionOf}
+use Rattle.gps_position.specs.Position.{angleBytes, positionText, positionCarried}
+use Rattle.gps_position.proofs.AlignedWrittenLaws.{value-aligned, aligned-right, four-digits, value-after}
+
+-- ---- an angle
+-- the bytes of an angle at its places
+record Holds (a : Angle) (z : ℤ) (s : List ℕ) : Type 0 where
+  whole : wholePart a s ≡ aligned (a .whole) (natAbs z / 10000)
+  after : decimals a s ≡ digits 4 (natAbs z)
+  letter : hemisphere a s ≡ signByte (code (a .above)) (code (a .below)) z
+
+record Read (a : Angle) (z : ℤ) (s : List ℕ) : Type 0 where
+  stand : angleDigits a s ≡ true
+  range : inRange a s ≡ true
+  same : angleOf a s ≡ z
+
+-- an angle has places for its limit, and two letters
+angle-read : (a : Angle) → 0 < a .whole → a .limit < 10000 * 10 ^ a .whole
+    → eqb (code (a .above)) (code (a .below)) ≡ false → (z : ℤ) → natAbs z ≤ a .limit
+    → (s : List ℕ) → Holds a z s → Read a z s
+unfolding angleDigits inRange angleOf
+angle-read a some room differ z small s h =
+    let degrees : natAbs z / 10000 < 10 ^ a .whole = omega arith in
+    let size : angleSize a s ≡ natAbs z =
+    rw (h .whole, h .after, valueFrom-append 0, value-aligned (a .whole) (natAbs z / 10000) degrees)
+    (value-after 4 (natAbs z)) in
+    record {
+      stand = rw (h .whole, h .after, aligned-right (a .whole) (natAbs z / 10000) some degrees, four-digits (natAbs z));
+      range = rw (h .letter, size) (sign-written (code (a .above)) (code (a .below)) differ (a .limit) z small);
+      same = rw (h .letter, size) (sign-read (code (a .above)) (code (a .below)) differ z);
+    }
+
+-- ---- the position
+module _ (p : Position) (s : List ℕ) (e : run 41 23 s ≡ positionText p) where
+  latitude-holds : Holds latitude (p .latitude) s
+  unfolding positionText angleBytes aligned padded digits ascii
+  latitude-holds =
+      record {
+        whole = ap (λ (t : List ℕ). run 0 2 t) e;
+        after = ap (λ (t : List ℕ). run 3 4 t) e;
+        letter = ap (λ (t : List ℕ). getD t 7 0) e;
+      }
+
+  longitude-holds : Holds longitude (p .longitude) s
+  unfolding positionText angleBytes aligned padded digits ascii
+  longitude-holds =
+      record {
+        whole = ap (λ (t : List ℕ). run 9 3 t) e;
+        after = ap (λ (t : List ℕ). run 13 4 t) e;
+        letter = ap (λ (t : List ℕ). getD t 17 0) e;
+      }
+
+  height-holds : run 60 4 s ≡ aligned 4 (p .height)
+  unfolding positionText angleBytes aligned padded digits ascii
+  height-holds = ap (λ (t : List ℕ). run 19 4 t) e
+
+pub record PositionRead (p : Position) (s : List ℕ) : Type 0 where
+  pub faultless : positionFault s ≡ false
+  pub same : positionOf s ≡ p
+
+pub position-read : (p : Position) → positionCarried p ≡ true → (s : List ℕ) → run 41 23 s ≡ positionText p
+    → PositionRead p s
+unfolding positionCarried positionFault positionDigits positionOf
+position-read p h s e =
+    let north = leb (natAbs (p .latitude)) 900000 in
+    let east = leb (natAbs (p .longitude)) 1800000 in
+    let w = both (north && east) (leb (p .height) 9999) h in
+    let v = both north east (w .0) in
+    let high : p .height < 10 ^ 4 = omega (arith, leb-true (p .height) 9999 (w .1)) in
+    let n =
+    angle-read latitude (lit< tt) (lit< tt) refl (p .latitude) (leb-true _ _ (v .0)) s (latitude-holds p s e) in
+    let o =
+    angle-read longitude (lit< tt) (lit< tt) refl (p .longitude) (leb-true _ _ (v .1)) s (longitude-holds p s e) in
+    let height : number 4 60 s ≡ p .height = rw (height-holds p s e) (value-aligned 4 (p .height) high) in
+    let aligned-height = rw (← (height-holds p s e)) at (aligned-right 4 (p .height) (lit< tt) high) in
+    record {
+      faultless = rw (n .stand, o .stand, aligned-height, n .range, o .range);
+      same = λ i. record { latitude = n .same i; longitude = o .same i; height = height i };
+    }

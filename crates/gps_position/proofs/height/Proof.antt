@@ -1,0 +1,32 @@
+-- `gps_position::height` meets its contract. Assumes nothing.
+use borrow.Author.Needs.{needs}
+use native.Mathlib.Omega.{arith}
+use denote.Ref.{now}
+use Rattle.layout.specs.Layout.{run}
+use Rattle.gps_position.proofs.AlignedLaws.{value-small}
+use Rattle.gps_position.proofs.PositionLaws.{position-digits}
+use Rattle.gps_position.proofs.height.Statement.{statement}
+use Rattle.gps_position.proofs.height.Tie as tie
+
+four-requires : tie.Need-four-requires
+four-requires c κs =
+    let x = c .before .before .before .before .before in
+    position-digits (now (x .args .s)) (x .pre .1) .height-plain
+
+cast-result : tie.Need-cast-result
+cast-result c =
+    let x = c .before .before .before .before .before .before in
+    let plain = position-digits (now (x .args .s)) (x .pre .1) .height-plain in
+    omega (arith, value-small (run 60 4 (now (x .args .s))) plain, c .four .ensures)
+
+pub height-spec : {M : Type 1} → statement M
+height-spec =
+    tie.close
+    (tie.spec
+    (λ c. search needs)
+    (λ c. search needs)
+    (λ c. search needs)
+    (λ c. search needs)
+    four-requires
+    cast-result
+    (λ c. search needs))

@@ -1,0 +1,55 @@
+-- `gps_position::read_digits` meets its contract. Assumes nothing.
+use borrow.Author.Needs.{needs}
+use Rattle.decimal.specs.Decimal.{isDigit, valueFrom}
+use Rattle.gps_position.specs.Aligned.{digitsOrBlanks}
+use Rattle.gps_position.proofs.PositionLaws.{position-digits, position-stands}
+use Rattle.gps_position.proofs.read_digits.Statement.{statement}
+use Rattle.gps_position.proofs.read_digits.Tie as tie
+
+angle-size-requires : tie.Need-angle-size-requires
+unfolding digitsOrBlanks isDigit
+angle-size-requires c κs =
+    let x = c .before .before .before .before .before .before in
+    let d = position-digits _ (x .before .pre .1) .latitude-digits in
+    (d .whole-plain, d .after-plain)
+
+angle-size-requires-2 : tie.Need-angle-size-requires-2
+angle-size-requires-2 c κs =
+    let n = c .before .before .before .before .before .before .before in
+    let x = n .before .before .before .before .before .before .before in
+    let d = position-digits _ (x .before .pre .1) .longitude-digits in
+    (d .whole-plain, d .after-plain)
+
+returns : tie.Need-returns
+unfolding valueFrom
+returns c =
+    let e = c .before .before .before .before in
+    let n = e .before .before .before .before .before .before .before .before in
+    let x = n .before .before .before .before .before .before .before .before in
+    position-stands _ (x .pre .1) (n .angle-size .ensures) (e .angle-size2 .ensures) (c .before .height .ensures)
+    (c .position-from .ensures)
+
+pub read-digits-spec : {M : Type 1} → statement M
+read-digits-spec =
+    tie.close
+    (tie.spec
+    (λ c. search needs)
+    (λ c. search needs)
+    (λ c. search needs)
+    (λ c. search needs)
+    (λ c. search needs)
+    (λ c. search needs)
+    angle-size-requires
+    (λ c. search needs)
+    (λ c. search needs)
+    (λ c. search needs)
+    (λ c. search needs)
+    (λ c. search needs)
+    (λ c. search needs)
+    (λ c. search needs)
+    angle-size-requires-2
+    (λ c. search needs)
+    (λ c. search needs)
+    (λ c κs. search needs)
+    (λ c κs. search needs)
+    returns)

@@ -1,0 +1,35 @@
+-- `gps_position::text::angle_text` meets its contract. Assumes nothing.
+use borrow.Author.Needs.{needs}
+use mir.Facts.{toZ-ofZ}
+use Rattle.decimal.specs.Decimal.{digits}
+use Rattle.layout.specs.Ascii.{ascii}
+use Rattle.gps_position.specs.Aligned.{padded, aligned}
+use Rattle.gps_position.specs.Position.{angleBytes}
+use Rattle.gps_position.proofs.text.angle_text.Statement.{statement}
+use Rattle.gps_position.proofs.text.angle_text.Tie as tie
+
+returns : tie.Need-returns
+unfolding angleBytes aligned padded ascii digits
+returns c =
+    let w = c .before .before in
+    let f = w .before .before .fits .angle in
+    let size = rw (toZ-ofZ f) at (w .before .size .ensures) in
+    let letter = rw (toZ-ofZ f) at (c .sign-byte .ensures) in
+    simp (letter, c .before .decimals .ensures, w .aligned-text .ensures, size)
+
+pub angle-text-spec : {M : Type 1} → statement M
+angle-text-spec =
+    tie.close
+    (tie.spec
+    (λ c κs. search needs)
+    (λ c κs. search needs)
+    (λ c κs. search needs)
+    (λ c κs. search needs)
+    (λ c. search needs)
+    (λ c. search needs)
+    (λ c. search needs)
+    (λ c. search needs)
+    (λ c. search needs)
+    (λ c. search needs)
+    (λ c. search needs)
+    returns)

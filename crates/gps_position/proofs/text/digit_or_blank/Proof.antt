@@ -1,0 +1,18 @@
+-- `gps_position::text::digit_or_blank` meets its contract. Assumes nothing.
+use borrow.Author.Needs.{needs}
+use Rattle.clock_time.proofs.Tests.{tests}
+use Rattle.gps_position.specs.Aligned.{blankOr}
+use Rattle.gps_position.proofs.text.digit_or_blank.Statement.{statement}
+use Rattle.gps_position.proofs.text.digit_or_blank.Tie as tie
+
+returns : tie.Need-returns
+unfolding blankOr
+returns c = search tests
+
+returns-2 : tie.Need-returns-2
+unfolding blankOr
+returns-2 c = search tests
+
+pub digit-or-blank-spec : {M : Type 1} → statement M
+digit-or-blank-spec =
+    tie.close (tie.spec returns (λ c. search needs) (λ c. search needs) returns-2)

@@ -1,0 +1,60 @@
+// The bytes of right-aligned numbers, of decimals and of an angle.
+ghost use mathlib.Core.Path.{_≡_};
+ghost use Rattle.decimal.specs.Decimal.{digits};
+ghost use Rattle.gps_position.specs.Aligned.{blankOr, aligned};
+ghost use Rattle.gps_position.specs.Position.{angleBytes};
+
+fn digit_or_blank(n: u32) -> u8
+    ensures { λ r. ⌜ r ≡ blankOr n ⌝ }
+{
+    if n == 0 {
+        return b' ';
+    }
+    48 + (n % 10) as u8
+}
+
+pub(crate) fn aligned_text(n: u32) -> [u8; 4]
+    ensures { λ r. ⌜ r ≡ aligned 4 n ⌝ }
+{
+    let tens = n / 10;
+    [
+        digit_or_blank(tens / 10 / 10),
+        digit_or_blank(tens / 10),
+        digit_or_blank(tens),
+        48 + (n % 10) as u8,
+    ]
+}
+
+fn decimals(n: u32) -> [u8; 4]
+    ensures { λ r. ⌜ r ≡ digits 4 n ⌝ }
+{
+    let tens = n / 10;
+    let hundreds = tens / 10;
+    [
+        48 + (hundreds / 10 % 10) as u8,
+        48 + (hundreds % 10) as u8,
+        48 + (tens % 10) as u8,
+        48 + (n % 10) as u8,
+    ]
+}
+
+// An angle with three places before its point, and its letter of two.
+pub(crate) fn angle_text(above: u8, below: u8, angle: i32) -> [u8; 9]
+    ensures { λ r. ⌜ r ≡ angleBytes 3 above below angle ⌝ }
+{
+    let size = signed::size(angle);
+    let whole = aligned_text(size / 10000);
+    let after = decimals(size);
+    let letter = signed::sign_byte(above, below, angle);
+    [
+        whole[1],
+        whole[2],
+        whole[3],
+        b'.',
+        after[0],
+        after[1],
+        after[2],
+        after[3],
+        letter,
+    ]
+}

@@ -1,5 +1,5 @@
 -- Right-aligned numbers are read as they were written, for any number of places. Assumes nothing.
-use Prim.Native.Nat.{ℕ, zero, suc, _+_, _*_, _/_, _%_, _^_, _<_}
+use Prim.Native.Nat.{ℕ, zero, suc, _+_, _/_, _%_, _^_, _<_}
 use native.Mathlib.Decide.{decLt, ℕ-discrete}
 use native.Mathlib.Nat.{pow-succ', div-one, div-div-eq-div-mul}
 use native.Mathlib.Omega.{arith}
@@ -7,7 +7,7 @@ use mathlib.Core.Path.{_≡_, refl}
 use mathlib.Core.Bool.{true, or-true}
 use mathlib.Core.List.{List, [], _∷_, _++_, append-assoc}
 use borrow.Author.Tests.{le-leb, ne-eqb}
-use Rattle.decimal.specs.Decimal.{isDigit, valueFrom, value, digits}
+use Rattle.decimal.specs.Decimal.{valueFrom, value, digits}
 use Rattle.decimal.proofs.DecimalLaws.{valueFrom-append}
 use Rattle.layout.proofs.DecideLaws.{digit-fits}
 use Rattle.gps_position.specs.Aligned.{areDigits, rightAligned, blankOr, padded, aligned}

@@ -5,7 +5,6 @@ use mathlib.Core.Bool.{Bool, true, false, _&&_}
 use mathlib.Core.List.{List}
 use lib.Dec.{eqb}
 use Rattle.clock_time.specs.Writing.{writing}
-use Rattle.clock_time.specs.declared.ClockTime.{ClockTime}
 use Rattle.clock_time.proofs.SameLaws.{beq-refl}
 use Rattle.calendar.specs.UnixTime.{isValid}
 use Rattle.calendar.proofs.ValidLaws.{valid}

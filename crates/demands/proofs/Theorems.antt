@@ -34,8 +34,9 @@ use Rattle.recording.specs.Recording.{correctMark}
 use Rattle.recording.proofs.Theorems as recordings
 use Rattle.listing.specs.Line.{writeLine}
 use Rattle.listing.specs.Listing.{writeTotals}
-use Rattle.radio_clock.specs.Called.{leaving}
-use Rattle.radio_clock.specs.Numbers.{minuteNumbers, putNumbers, timeOf, gpsOf, minuteOf}
+use Rattle.clock_fields.specs.Called.{leaving}
+use Rattle.clock_fields.specs.Numbers.{minuteNumbers, putNumbers, putAnswer}
+use Rattle.clock_fields.specs.Ranges.{timeOf, gpsOf, minuteOf}
 use Rattle.radio_clock.specs.Strings.{kindNumberOf, kindNamed, readingNumbers, readNumbered, readInto, writeAs, writeFrom}
 use Rattle.radio_clock.specs.Strings.{unixTimeOf}
 use Rattle.radio_clock.specs.Minutes.{readMinuteInto, writeMinuteFrom}
@@ -136,13 +137,18 @@ put-kept : (numbers fields : List ℤ) → Kept fields (putNumbers numbers field
 unfolding putNumbers
 put-kept numbers fields = leaves-kept fields _ (checked (given 20 (ltb (length fields) (length numbers)) ∷ []) tt)
 
+put-answer-kept : {A : Type 0} (numbers : A → List ℤ) (a : Answer A) (fields : List ℤ)
+    → Kept fields (putAnswer numbers a fields)
+unfolding putAnswer
+put-answer-kept numbers a fields = leaving-kept fields a _ (λ x. put-kept (numbers x) fields)
+
 read-kept : (n : ℕ) (s : List ℕ) (fields : List ℤ) → Kept fields (readInto n s fields)
 unfolding readInto
-read-kept n s fields = leaving-kept fields (readNumbered n s) _ (λ r. put-kept (readingNumbers r) fields)
+read-kept n s fields = put-answer-kept readingNumbers (readNumbered n s) fields
 
 read-minute-kept : (m : List ℕ) (fields : List ℤ) → Kept fields (readMinuteInto m fields)
 unfolding readMinuteInto
-read-minute-kept m fields = leaving-kept fields (readMinute m) _ (λ a. put-kept (minuteNumbers a) fields)
+read-minute-kept m fields = put-answer-kept minuteNumbers (readMinute m) fields
 
 write-as-kept : (kind : Kind) (fields : List ℤ) (d : List ℕ) → Kept d (writeAs kind fields d)
 unfolding writeAs writeStandard writePzf writeGps writeElv writeText writeBack

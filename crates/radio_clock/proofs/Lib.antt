@@ -1,8 +1,8 @@
 -- Laws of the C face, and its main results.
 pub mod CalledLaws
-pub mod NumberLaws
+pub mod StringLaws
 pub mod FeedLaws
+pub mod StateLaws
 pub mod ValidLaws
-pub mod BackLaws
 pub mod RoundLaws
 pub mod Theorems

@@ -1,9 +1,10 @@
 -- What is read is written back through numbers, for every kind, and calls of the feed go on. Assumes nothing.
 use Prim.Native.Nat.{ℕ, _≤_}
 use native.Mathlib.Omega.{arith}
-use mathlib.Core.Path.{_≡_, refl, _∙_}
+use mathlib.Core.Path.{_≡_, refl, sym, _∙_}
 use mathlib.Core.Bool.{true, _&&_}
-use mathlib.Core.List.{List, _++_}
+use mathlib.Core.List.{List, [], _++_, append-nil}
+use lib.Dec.{lit≤}
 use lib.ListN.{length, take, drop, replicate}
 use lib.IntN.{ℤ}
 use lib.Seq.{length-take-le}
@@ -22,10 +23,12 @@ use Rattle.meinberg_pzf.proofs.Theorems as pzf-string
 use Rattle.elv_dcf7000.proofs.Theorems as elv-string
 use Rattle.meinberg_gps.proofs.Theorems as gps-string
 use Rattle.meinberg_gps.specs.Gps.{gps, gpsFields, readGps}
-use Rattle.gps_position.specs.Position.{positionDigits, positionFault, positionOf, latitude, longitude, inRange}
+use Rattle.gps_position.specs.Position.{Angle, latitude, longitude, hemisphere, angleSize, angleOf, inRange}
+use Rattle.gps_position.specs.Position.{positionDigits, positionFault, positionOf}
 use Rattle.meinberg_gps.specs.declared.GpsTime.{GpsTime}
 use Rattle.gps_position.proofs.AlignedLaws.{value-small}
 use Rattle.gps_position.proofs.PositionLaws.{position-digits}
+use Rattle.signed.proofs.SignedLaws.{sign-limit, signed-size}
 use Rattle.dcf77.specs.Minute.{minuteFields, readMinute}
 use Rattle.dcf77.specs.declared.MinuteTime.{MinuteTime}
 use Rattle.dcf77.proofs.MarkLaws.{small-sure, binary-below}
@@ -35,16 +38,18 @@ use Rattle.time_string.specs.declared.Kind.{Kind}
 use Rattle.time_string.specs.declared.Kind.the-variants.{Standard, Pzf, Gps, Elv}
 use Rattle.framing.specs.Step.{start}
 use Rattle.framing.specs.Feed.{feedOf}
-use Rattle.radio_clock.specs.Called.{andThen, leaving}
-use Rattle.radio_clock.specs.Numbers.{timeNumbers, gpsNumbers, minuteNumbers, timeOf}
-use Rattle.radio_clock.specs.Held.{clockOf}
-use Rattle.radio_clock.specs.Strings.{kindNamed, readingNumbers, readNumbered, writeAs, writeFrom, unixTimeOf}
+use Rattle.clock_fields.specs.Called.{andThen, leaving}
+use Rattle.clock_fields.specs.Numbers.{timeNumbers, gpsNumbers, minuteNumbers}
+use Rattle.clock_fields.specs.Ranges.{i32Range, within, timeOf}
+use Rattle.clock_fields.specs.Held.{HoldsPosition}
+use Rattle.radio_clock.specs.Strings.{kindNamed, clockOf, readingNumbers, readNumbered, writeAs, writeFrom}
+use Rattle.radio_clock.specs.Strings.{unixTimeOf}
 use Rattle.radio_clock.specs.Minutes.{writeMinuteFrom}
 use Rattle.radio_clock.specs.Feed.{modeOf, framerIn, stateBytes, eventNumber, feedMemory, feedInto}
-use Rattle.radio_clock.proofs.NumberLaws.{first-14}
 use Rattle.radio_clock.proofs.ValidLaws.{valid-holds, standard-valid, pzf-valid, elv-valid, gps-valid}
-use Rattle.radio_clock.proofs.ValidLaws.{minute-valid}
-use Rattle.radio_clock.proofs.BackLaws.{time-back, gps-back, minute-back, state-back}
+use Rattle.radio_clock.proofs.ValidLaws.{minute-valid, size-within}
+use Rattle.clock_fields.proofs.BackLaws.{time-back, first-back, gps-back, minute-back}
+use Rattle.radio_clock.proofs.StateLaws.{state-back}
 use Rattle.radio_clock.proofs.FeedLaws.{feed-whole}
 
 -- ---- what was accepted
@@ -67,9 +72,8 @@ kind-read (accepted k) s r h go = go k refl h
 kind-read (refused j) s r h go = refused-accepted h
 
 -- ---- numbers of a valid reading
-whole : (t : ClockTime) → take 14 (timeNumbers t) ≡ timeNumbers t
-unfolding timeNumbers
-whole t = refl
+alone : (t : ClockTime) → timeNumbers t ≡ timeNumbers t ++ []
+alone t = sym (append-nil (timeNumbers t))
 
 -- a clock time handed on as its numbers
 module _ (t : ClockTime) (h : isValid t ≡ true) where
@@ -77,18 +81,30 @@ module _ (t : ClockTime) (h : isValid t ≡ true) where
       → leaving d (timeOf (timeNumbers t)) (λ x. write x d) ≡ write t d
   handed-on write d = rw (time-back t (valid-holds t h))
 
-  instant-on : (z : List ℤ) → take 14 z ≡ timeNumbers t → unixTimeOf z ≡ accepted (instantOf t)
+  instant-on : (z : List ℤ) → unixTimeOf (timeNumbers t ++ z) ≡ accepted (instantOf t)
   unfolding unixTimeOf unixTime
-  instant-on z e = rw (e, time-back t (valid-holds t h)) (simp h)
+  instant-on z = rw (first-back t (valid-holds t h) z) (simp h)
 
-height-small : (s : List ℕ) (g : GpsTime) → readGps s ≡ accepted g → g .position .height ≤ 65535
+angle-within : (a : Angle) (s : List ℕ) → a .limit ≤ 2147483647 → inRange a s ≡ true
+    → within i32Range (angleOf a s) ≡ true
+unfolding inRange angleOf
+angle-within a s small h =
+    let size = sign-limit _ _ (a .limit) (hemisphere a s) (angleSize a s) h in
+    size-within 2147483647 (angleOf a s) (rw signed-size (omega arith))
+
+position-holds : (s : List ℕ) (g : GpsTime) → readGps s ≡ accepted g → HoldsPosition (g .position)
 unfolding gps gpsFields positionOf positionFault
-height-small s g h =
+position-holds s g h =
     let r = gps-string.faithful .accepted-exactly s g .0 h in
     let w = both (positionDigits s && inRange latitude s) (inRange longitude s) (not-false _ (r .0 .position)) in
-    let digits = both (positionDigits s) (inRange latitude s) (w .0) .0 in
-    let small = value-small (run 60 4 s) (position-digits s digits .height-plain) in
-    rw (r .1) (omega arith)
+    let v = both (positionDigits s) (inRange latitude s) (w .0) in
+    let small = value-small (run 60 4 s) (position-digits s (v .0) .height-plain) in
+    rw (r .1)
+    (record {
+      latitude = angle-within latitude s (lit≤ tt) (v .1);
+      longitude = angle-within longitude s (lit≤ tt) (w .1);
+      height = omega arith;
+    })
 
 marks-small : (m : List ℕ) (a : MinuteTime) → readMinute m ≡ accepted a → a .detail .marks ≤ 65535
 unfolding minuteFields
@@ -114,20 +130,20 @@ module _ (s : List ℕ) (r : Reading) where
       let w = located-time _ r h in
       let g = w .0 in
       let holds = valid-holds (g .time) (gps-valid s g (w .1)) in
-      rw (w .2, gps-back g holds (height-small s g (w .1))) (gps-string.faithful .written-back s g (w .1) d room)
+      rw (w .2, gps-back g holds (position-holds s g (w .1)))
+      (gps-string.faithful .written-back s g (w .1) d room)
   write-kind Elv h d room =
       let w = plain-time _ r h in
       rw (w .2) (handed-on (w .0) (elv-valid s (w .0) (w .1)) writeElv d
       ∙ elv-string.faithful .written-back s (w .0) (w .1) d room)
 
   valid-kind : (k : Kind) → readAs k s ≡ accepted r
-      → (isValid (clockOf r) ≡ true) × (take 14 (readingNumbers r) ≡ timeNumbers (clockOf r))
+      → (isValid (clockOf r) ≡ true) × (z : List ℤ) × (readingNumbers r ≡ timeNumbers (clockOf r) ++ z)
   unfolding readAs gpsNumbers
-  valid-kind Standard h =
-      let w = plain-time _ r h in rw (w .2) (standard-valid s (w .0) (w .1), whole (w .0))
-  valid-kind Pzf h = let w = plain-time _ r h in rw (w .2) (pzf-valid s (w .0) (w .1), whole (w .0))
-  valid-kind Gps h = let w = located-time _ r h in rw (w .2) (gps-valid s (w .0) (w .1), first-14 (w .0 .time) _)
-  valid-kind Elv h = let w = plain-time _ r h in rw (w .2) (elv-valid s (w .0) (w .1), whole (w .0))
+  valid-kind Standard h = let w = plain-time _ r h in rw (w .2) (standard-valid s (w .0) (w .1), [], alone (w .0))
+  valid-kind Pzf h = let w = plain-time _ r h in rw (w .2) (pzf-valid s (w .0) (w .1), [], alone (w .0))
+  valid-kind Gps h = let w = located-time _ r h in rw (w .2) (gps-valid s (w .0) (w .1), _, refl)
+  valid-kind Elv h = let w = plain-time _ r h in rw (w .2) (elv-valid s (w .0) (w .1), [], alone (w .0))
 
 -- ---- the results
 pub write-read : (n : ℕ) (s : List ℕ) (r : Reading) → readNumbered n s ≡ accepted r
@@ -141,7 +157,7 @@ pub unix-time-read : (n : ℕ) (s : List ℕ) (r : Reading) → readNumbered n s
 unfolding readNumbered
 unix-time-read n s r h =
     kind-read (kindNamed n) s r h
-    (λ k e read. let w = valid-kind s r k read in instant-on (clockOf r) (w .0) (readingNumbers r) (w .1))
+    (λ k e read. let w = valid-kind s r k read in rw (w .2) (instant-on (clockOf r) (w .0) (w .1)))
 
 pub write-read-minute : (m : List ℕ) (a : MinuteTime) → readMinute m ≡ accepted a
     → (d : List ℕ) → length m ≤ length d

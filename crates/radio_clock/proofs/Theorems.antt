@@ -4,7 +4,6 @@ use mathlib.Core.Path.{_≡_}
 use mathlib.Core.List.{List, _++_}
 use lib.ListN.{length, take, drop, replicate}
 use Rattle.clock_time.specs.Errors.{accepted}
-use Rattle.clock_time.specs.declared.ClockTime.{ClockTime}
 use Rattle.calendar.specs.UnixTime.{instantOf}
 use Rattle.time_string.specs.Kind.{Reading}
 use Rattle.dcf77.specs.Minute.{readMinute}
@@ -12,17 +11,12 @@ use Rattle.dcf77.specs.declared.MinuteTime.{MinuteTime}
 use Rattle.framing.specs.declared.Framer.{Framer}
 use Rattle.framing.specs.Step.{start}
 use Rattle.framing.specs.Feed.{feedOf}
-use Rattle.radio_clock.specs.Numbers.{timeNumbers, minuteNumbers, timeOf}
-use Rattle.radio_clock.specs.Held.{Holds, clockOf}
-use Rattle.radio_clock.specs.Strings.{readingNumbers, readNumbered, writeFrom, unixTimeOf}
+use Rattle.clock_fields.specs.Numbers.{minuteNumbers}
+use Rattle.radio_clock.specs.Strings.{clockOf, readingNumbers, readNumbered, writeFrom, unixTimeOf}
 use Rattle.radio_clock.specs.Minutes.{writeMinuteFrom}
 use Rattle.radio_clock.specs.Feed.{framerIn, stateBytes, feedMemory, feedInto}
-use Rattle.radio_clock.proofs.BackLaws as back
+use Rattle.radio_clock.proofs.StateLaws as state
 use Rattle.radio_clock.proofs.RoundLaws as round
-
--- the numbers of a clock time are that clock time again
-pub time-numbers : (t : ClockTime) → Holds t → timeOf (timeNumbers t) ≡ accepted t
-time-numbers = back.time-back
 
 -- "Written back, an accepted reading gives the same bytes" (demand 2): the numbers that `radio_clock_read` leaves,
 -- handed to `radio_clock_write`
@@ -48,7 +42,7 @@ zero-state = round.zero-state
 
 -- the bytes of a state are that state again
 pub state-bytes : (f : Framer) (rest : List ℕ) → length (f .bytes) ≡ 66 → framerIn (stateBytes f ++ rest) ≡ f
-state-bytes = back.state-back
+state-bytes = state.state-back
 
 -- "The feed's state goes in and is handed back" (01, The serial feed): what a call leaves stands for the state after
 -- the bytes taken, which are those of the feed, so that calls in a row are feeds in a row

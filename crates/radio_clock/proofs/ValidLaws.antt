@@ -8,7 +8,7 @@ use mathlib.Core.List.{List}
 use Prim.Native.Char.{code}
 use lib.Dec.{leb, ltb, eqb}
 use lib.ListN.{getD}
-use lib.IntN.{ℤ, pos, negsuc}
+use lib.IntN.{ℤ, pos, negsuc, natAbs}
 use borrow.Author.Tests.{leb-true, ltb-true, eqb-true, le-leb, not-false}
 use Rattle.clock_time.specs.Errors.{accepted}
 use Rattle.clock_time.specs.declared.ClockTime.{ClockTime}
@@ -35,8 +35,8 @@ use Rattle.dcf77.specs.Marks.{long, twoDigits}
 use Rattle.dcf77.specs.Minute.{announced, minuteFields, readMinute}
 use Rattle.dcf77.specs.declared.MinuteTime.{MinuteTime}
 use Rattle.dcf77.proofs.Theorems as minute
-use Rattle.radio_clock.specs.Numbers.{within}
-use Rattle.radio_clock.specs.Held.{Holds}
+use Rattle.clock_fields.specs.Ranges.{range, i16Range, i32Range, within}
+use Rattle.clock_fields.specs.Held.{Holds, HoldsPosition}
 
 -- ---- valid readings
 year-known : (n : ℕ) → (1970 ≤ fullYear n) × (fullYear n ≤ 2069)
@@ -52,10 +52,14 @@ valid t n y date time monday sunday offset =
     let last : t .year ≤ 2069 = rw y (year-known n .1) in
     simp (le-leb _ _ first, le-leb _ _ last, date, time, le-leb _ _ monday, le-leb _ _ sunday, offset)
 
-offset-small : (z : ℤ) → offsetInRange z ≡ true → within (negsuc 32767) (pos 32767) z ≡ true
+-- a number of a size is within the range of that size
+pub size-within : (m : ℕ) (z : ℤ) → natAbs z ≤ m → within (range (negsuc m) (pos m)) z ≡ true
+size-within m (pos n) h = le-leb n m h
+size-within m (negsuc n) h = simp (le-leb n m (omega arith))
+
+offset-small : (z : ℤ) → offsetInRange z ≡ true → within i16Range z ≡ true
 unfolding offsetInRange
-offset-small (pos n) h = let k = leb-true n 840 h in le-leb n 32767 (omega arith)
-offset-small (negsuc n) h = let k = leb-true (suc n) 840 h in simp (le-leb n 32767 (omega arith))
+offset-small z h = let k = leb-true (natAbs z) 840 h in size-within 32767 z (omega arith)
 
 second-small : (second : ℕ) (b : Bool) → (ltb second 60 || eqb second 60 && b) ≡ true → second ≤ 60
 second-small second b h = go (ltb second 60) refl h

@@ -13,6 +13,7 @@ use Rattle.framing.specs.declared.Mode.{Mode}
 use Rattle.framing.specs.declared.Mode.the-variants.{Outside, Inside, Overlong}
 
 -- ---- the state
+-- outside a string, inside one, or in one that is too long
 abbrev pub modeNumber : Mode → ℕ
 modeNumber Outside = 0
 modeNumber Inside = 1
@@ -26,6 +27,7 @@ modeOf n = cond (eqb n 1) Inside (cond (eqb n 2) Overlong Outside)
 unfoldable pub framerIn : List ℕ → Framer
 framerIn state = framerOf (take 66 state) (getD state 66 0) (modeOf (getD state 67 0))
 
+-- the 68 bytes of a state
 unfoldable pub stateBytes : Framer → List ℕ
 stateBytes f = f .bytes ++ (f .count ∷ modeNumber (f .mode) ∷ [])
 
@@ -43,6 +45,7 @@ pub record FeedMemory : Type 0 where
   pub taken : ℕ
   pub event : ℕ
 
+-- these three
 abbrev pub feedMemory : List ℕ → ℕ → ℕ → FeedMemory
 feedMemory state taken event = record { state = state; taken = taken; event = event }
 

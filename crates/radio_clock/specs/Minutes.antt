@@ -5,13 +5,14 @@ use lib.IntN.{ℤ}
 use Rattle.clock_time.specs.Exit.{Exit}
 use Rattle.clock_time.specs.Writing.{Outcome}
 use Rattle.dcf77.specs.Minute.{readMinute, writeMinute}
-use Rattle.radio_clock.specs.Called.{leaving}
-use Rattle.radio_clock.specs.Numbers.{minuteNumbers, putNumbers, minuteOf}
+use Rattle.clock_fields.specs.Called.{leaving}
+use Rattle.clock_fields.specs.Numbers.{minuteNumbers, putAnswer}
+use Rattle.clock_fields.specs.Ranges.{minuteOf}
 
 -- the minute that was read is put in front of the numbers lent: as the minute's reader, and then 20 where there is no
 -- room
 unfoldable pub readMinuteInto : List ℕ → List ℤ → Exit (Unit {0}) (List ℤ)
-readMinuteInto marks lent = leaving lent (readMinute marks) (λ a. putNumbers (minuteNumbers a) lent)
+readMinuteInto marks lent = putAnswer minuteNumbers (readMinute marks) lent
 
 -- as the minute's writer, after 23 where the numbers are no minute's
 unfoldable pub writeMinuteFrom : List ℤ → List ℕ → Outcome

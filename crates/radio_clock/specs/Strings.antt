@@ -3,11 +3,11 @@ use Prim.Native.Nat.{ℕ}
 use mathlib.Core.Bool.{cond}
 use mathlib.Core.List.{List}
 use lib.Dec.{eqb}
-use lib.ListN.{take}
 use lib.IntN.{ℤ}
 use Rattle.clock_time.specs.Errors.{Answer, accepted, refused}
 use Rattle.clock_time.specs.Exit.{Exit}
 use Rattle.clock_time.specs.Writing.{Outcome}
+use Rattle.clock_time.specs.declared.ClockTime.{ClockTime}
 use Rattle.calendar.specs.UnixTime.{unixTime}
 use Rattle.meinberg_standard.specs.Standard.{writeStandard}
 use Rattle.meinberg_pzf.specs.Pzf.{writePzf}
@@ -16,10 +16,12 @@ use Rattle.elv_dcf7000.specs.Elv.{writeElv}
 use Rattle.time_string.specs.Kind.{kindOf, Reading, time, timeAndPosition, readAs}
 use Rattle.time_string.specs.declared.Kind.{Kind}
 use Rattle.time_string.specs.declared.Kind.the-variants.{Standard, Pzf, Gps, Elv}
-use Rattle.radio_clock.specs.Called.{andThen, leaving}
-use Rattle.radio_clock.specs.Numbers.{timeNumbers, gpsNumbers, putNumbers, timeOf, gpsOf}
+use Rattle.clock_fields.specs.Called.{andThen, leaving}
+use Rattle.clock_fields.specs.Numbers.{timeNumbers, gpsNumbers, putAnswer}
+use Rattle.clock_fields.specs.Ranges.{timeOf, firstTimeOf, gpsOf}
 
 -- ---- kinds
+-- the kinds as C numbers them
 abbrev pub kindNumber : Kind → ℕ
 kindNumber Standard = 0
 kindNumber Pzf = 1
@@ -40,13 +42,15 @@ kindNamed n =
     (refused 1))))
 
 -- ---- reading
+-- the clock time of a reading
+abbrev pub clockOf : Reading → ClockTime
+clockOf (time t) = t
+clockOf (timeAndPosition g) = g .time
+
+-- the numbers of a reading, 14 or with a position 17
 abbrev pub readingNumbers : Reading → List ℤ
 readingNumbers (time t) = timeNumbers t
 readingNumbers (timeAndPosition g) = gpsNumbers g
-
--- what was read is put in front of the numbers lent
-abbrev pub putReading : List ℤ → Answer Reading → Exit (Unit {0}) (List ℤ)
-putReading lent a = leaving lent a (λ r. putNumbers (readingNumbers r) lent)
 
 -- "The caller names the kind; an unknown kind number from C gives 1." (01, Meinberg and ELV strings)
 unfoldable pub readNumbered : ℕ → List ℕ → Answer Reading
@@ -55,7 +59,7 @@ readNumbered n s = andThen (kindNamed n) (λ kind. readAs kind s)
 -- "a data collector written in C calls them on numbers and byte slices" (01, Which form belongs where): as the kind's
 -- reader, and then 20 where there is no room
 unfoldable pub readInto : ℕ → List ℕ → List ℤ → Exit (Unit {0}) (List ℤ)
-readInto n s lent = putReading lent (readNumbered n s)
+readInto n s lent = putAnswer readingNumbers (readNumbered n s) lent
 
 -- ---- writing
 -- as the kind's writer, after 23 where the numbers are no reading's
@@ -65,10 +69,20 @@ writeAs Pzf z buffer = leaving buffer (timeOf z) (λ t. writePzf t buffer)
 writeAs Gps z buffer = leaving buffer (gpsOf z) (λ g. writeGps g buffer)
 writeAs Elv z buffer = leaving buffer (timeOf z) (λ t. writeElv t buffer)
 
+-- the same for the kind that a number names
 unfoldable pub writeFrom : ℕ → List ℤ → List ℕ → Outcome
 writeFrom n z buffer = leaving buffer (kindNamed n) (λ kind. writeAs kind z buffer)
+
+-- a clock time as a string of kind 0 or 1, or of kind 3 for any other number
+unfoldable pub writeTime : ℕ → ClockTime → List ℕ → Outcome
+writeTime n t buffer =
+    cond (eqb n 0) (writeStandard t buffer) (cond (eqb n 1) (writePzf t buffer) (writeElv t buffer))
+
+-- the same from the numbers of a clock time
+unfoldable pub writePlain : ℕ → List ℤ → List ℕ → Outcome
+writePlain n z buffer = leaving buffer (timeOf z) (λ t. writeTime n t buffer)
 
 -- ---- the instant
 -- "Refused with 23 where the fields are no valid reading" (01, The reading): the first 14 numbers count
 unfoldable pub unixTimeOf : List ℤ → Answer ℤ
-unixTimeOf z = andThen (timeOf (take 14 z)) unixTime
+unixTimeOf z = andThen (firstTimeOf z) unixTime

@@ -3,7 +3,6 @@
 pub mod feed;
 pub mod instant;
 pub mod minutes;
-mod numbers;
 pub mod recordings;
 pub mod strings;
 mod written;

@@ -9,27 +9,19 @@ unfolding unixTimeOf
 returns c =
     let u = c .before .before in
     let t = u .before .before in
-    let o = t .before .before in
-    rw (
-      ← (o .before .first-14 .ensures),
-      ← (o .time-of .ensures),
-      t .t .given .1,
-      ← (u .unix-time .ensures),
-    )
+    rw (← (t .before .before .first-time-of .ensures), t .t .given .1, ← (u .unix-time .ensures))
     (c .put-instant .ensures)
 
 returns-2 : tie.Need-returns-2
 unfolding unixTimeOf
 returns-2 c =
     let e = c .before .before in
-    let o = e .before .before in
-    rw (← (o .before .first-14 .ensures), ← (o .time-of .ensures), e .e .given .1, c .error-number .ensures)
+    rw (← (e .before .before .first-time-of .ensures), e .e .given .1, c .error-number .ensures)
 
 pub radio-clock-unix-time-spec : {M : Type 1} → statement M
 radio-clock-unix-time-spec =
     tie.close
     (tie.spec
-    (λ c κs. search needs)
     (λ c κs. search needs)
     (λ c. search needs)
     (λ c κs. search needs)

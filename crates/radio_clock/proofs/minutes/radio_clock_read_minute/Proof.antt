@@ -6,25 +6,8 @@ use Rattle.radio_clock.proofs.minutes.radio_clock_read_minute.Tie as ti
 
 returns : tie.Need-returns
 unfolding readMinuteInto
-returns c =
-    let a = c .before .before .before .before in
-    rw (← (a .before .before .read-minute .ensures), a .a .given .1) (c .before .put-minute .ensures)
-
-returns-2 : tie.Need-returns-2
-unfolding readMinuteInto
-returns-2 c =
-    let e = c .before .before in
-    rw (← (e .before .before .read-minute .ensures), e .e .given .1, c .error-number .ensures)
+returns c = rw (← (c .before .before .before .read-minute .ensures)) (c .before .put-minute .ensures)
 
 pub radio-clock-read-minute-spec : {M : Type 1} → statement M
 radio-clock-read-minute-spec =
-    tie.close
-    (tie.spec
-    (λ c κs. search needs)
-    (λ c. search needs)
-    (λ c κs. search needs)
-    (λ c. search needs)
-    (λ c κs. search needs)
-    (λ c. search needs)
-    returns
-    returns-2)
+    tie.close (tie.spec (λ c κs. search needs) (λ c κs. search needs) (λ c. search needs) returns)

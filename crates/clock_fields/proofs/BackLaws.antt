@@ -1,0 +1,85 @@
+-- The numbers of a reading fit their ranges, and stand for that reading. Assumes nothing.
+use Prim.Native.Nat.{ℕ, _≤_}
+use native.Mathlib.Omega.{arith}
+use mathlib.Core.Path.{_≡_, refl, sym, _∙_}
+use mathlib.Core.Bool.{Bool, true, false}
+use mathlib.Core.List.{List, [], _∷_, _++_}
+use lib.IntN.{ℤ, pos}
+use borrow.Author.Tests.{le-leb}
+use Rattle.clock_time.specs.Errors.{accepted}
+use Rattle.clock_time.specs.Same.{eqℤ}
+use Rattle.clock_time.specs.declared.ClockTime.{ClockTime}
+use Rattle.meinberg_gps.specs.declared.GpsTime.{GpsTime}
+use Rattle.dcf77.specs.declared.MinuteTime.{MinuteTime}
+use Rattle.clock_fields.specs.Numbers.{flag, timeNumbers, gpsNumbers, minuteNumbers}
+use Rattle.clock_fields.specs.Ranges.{Range, upTo, i32Range, within, timeRanges, gpsRanges, minuteRanges}
+use Rattle.clock_fields.specs.Ranges.{fits, isSet}
+use Rattle.clock_fields.specs.Ranges.{timeFrom, gpsFrom, minuteFrom, timeOf, firstTimeOf, gpsOf, minuteOf}
+use Rattle.clock_fields.specs.Held.{Holds, HoldsPosition}
+use Rattle.clock_fields.proofs.RangeLaws.{numbered-fit}
+
+flag-back : (b : Bool) → isSet (flag b) ≡ b
+unfolding eqℤ
+flag-back true = refl
+flag-back false = refl
+
+-- ---- numbers in their ranges
+up-within : (m n : ℕ) → n ≤ m → within (upTo m) (pos n) ≡ true
+up-within m n h = simp (le-leb 0 n (omega arith), le-leb n m h)
+
+flag-within : (on : Bool) → within (upTo 1) (flag on) ≡ true
+flag-within true = refl
+flag-within false = refl
+
+-- the first 14 of some numbers
+module _ (t : ClockTime) (h : Holds t) (z : List ℤ) where
+  time-fits : (rs : List Range) → fits (timeRanges ++ rs) (timeNumbers t ++ z) ≡ fits rs z
+  unfolding timeRanges timeNumbers fits
+  time-fits rs =
+      simp (
+        up-within 65535 (t .year) (h .year),
+        up-within 255 (t .month) (h .month),
+        up-within 255 (t .day) (h .day),
+        up-within 255 (t .weekday) (h .weekday),
+        up-within 255 (t .hour) (h .hour),
+        up-within 255 (t .minute) (h .minute),
+        up-within 255 (t .second) (h .second),
+        h .offset,
+        flag-within,
+      )
+
+  time-from : timeFrom (timeNumbers t ++ z) ≡ t
+  unfolding timeFrom timeNumbers
+  time-from = simp flag-back
+
+  pub first-back : firstTimeOf (timeNumbers t ++ z) ≡ accepted t
+  unfolding timeRanges fits
+  first-back = sym (numbered-fit (time-fits []) (sym time-from))
+
+-- ---- the numbers of a reading
+pub time-back : (t : ClockTime) → Holds t → timeOf (timeNumbers t) ≡ accepted t
+unfolding timeRanges timeNumbers fits
+time-back t h = sym (numbered-fit (time-fits t h [] []) (sym (time-from t h [])))
+
+pub gps-back : (g : GpsTime) → Holds (g .time) → HoldsPosition (g .position) → gpsOf (gpsNumbers g) ≡ accepted g
+unfolding gpsFrom gpsNumbers gpsRanges timeRanges timeNumbers fits
+gps-back g h p =
+    let x = g .position in
+    let z = x .latitude ∷ x .longitude ∷ pos (x .height) ∷ [] in
+    let rest : fits (i32Range ∷ i32Range ∷ upTo 65535 ∷ []) z ≡ true =
+    simp (p .latitude, p .longitude, up-within 65535 (x .height) (p .height)) in
+    sym
+    (numbered-fit (time-fits (g .time) h z (i32Range ∷ i32Range ∷ upTo 65535 ∷ []) ∙ rest)
+    (simp (time-from (g .time) h z)))
+
+pub minute-back : (a : MinuteTime) → Holds (a .time) → a .detail .marks ≤ 65535
+    → minuteOf (minuteNumbers a) ≡ accepted a
+unfolding minuteFrom minuteNumbers minuteRanges timeRanges timeNumbers fits
+minute-back a h marks =
+    let d = a .detail in
+    let z = pos (d .marks) ∷ flag (d .sixty) ∷ [] in
+    let rest : fits (upTo 65535 ∷ upTo 1 ∷ []) z ≡ true =
+    simp (up-within 65535 (d .marks) marks, flag-within) in
+    sym
+    (numbered-fit (time-fits (a .time) h z (upTo 65535 ∷ upTo 1 ∷ []) ∙ rest)
+    (simp (time-from (a .time) h z, flag-back)))

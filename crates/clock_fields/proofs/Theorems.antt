@@ -1,0 +1,35 @@
+-- The main results: numbers and readings stand for one another, and nothing is lost on the way. Assumes nothing.
+use Prim.Native.Nat.{_≤_}
+use mathlib.Core.Path.{_≡_}
+use mathlib.Core.List.{List}
+use lib.IntN.{ℤ}
+use Rattle.clock_time.specs.Errors.{accepted}
+use Rattle.clock_time.specs.declared.ClockTime.{ClockTime}
+use Rattle.meinberg_gps.specs.declared.GpsTime.{GpsTime}
+use Rattle.dcf77.specs.declared.MinuteTime.{MinuteTime}
+use Rattle.clock_fields.specs.Numbers.{timeNumbers, gpsNumbers, minuteNumbers}
+use Rattle.clock_fields.specs.Ranges.{timeOf, gpsOf, minuteOf}
+use Rattle.clock_fields.specs.Held.{Holds, HoldsPosition}
+use Rattle.clock_fields.proofs.BackLaws as back
+use Rattle.clock_fields.proofs.ThereLaws as there
+
+-- the numbers of a reading are that reading again
+pub time-numbers : (t : ClockTime) → Holds t → timeOf (timeNumbers t) ≡ accepted t
+time-numbers = back.time-back
+
+pub gps-numbers : (g : GpsTime) → Holds (g .time) → HoldsPosition (g .position) → gpsOf (gpsNumbers g) ≡ accepted g
+gps-numbers = back.gps-back
+
+pub minute-numbers : (a : MinuteTime) → Holds (a .time) → a .detail .marks ≤ 65535
+    → minuteOf (minuteNumbers a) ≡ accepted a
+minute-numbers = back.minute-back
+
+-- numbers that are taken for a reading are that reading's, and no others are
+pub numbers-time : (z : List ℤ) (t : ClockTime) → timeOf z ≡ accepted t → timeNumbers t ≡ z
+numbers-time = there.numbers-time
+
+pub numbers-gps : (z : List ℤ) (g : GpsTime) → gpsOf z ≡ accepted g → gpsNumbers g ≡ z
+numbers-gps = there.numbers-gps
+
+pub numbers-minute : (z : List ℤ) (a : MinuteTime) → minuteOf z ≡ accepted a → minuteNumbers a ≡ z
+numbers-minute = there.numbers-minute

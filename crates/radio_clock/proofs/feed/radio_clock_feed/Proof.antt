@@ -3,6 +3,7 @@ use borrow.Author.Needs.{needs}
 use native.Mathlib.Omega.{arith}
 use Prim.Native.Nat.{_≤_}
 use denote.Ref.{now}
+use lib.ListN.{length}
 use borrow.Author.Tests.{lt-ltb}
 use Rattle.framing.specs.Step.{answerOf}
 use Rattle.radio_clock.specs.Feed.{eventNumber, feedInto}
@@ -12,7 +13,7 @@ use Rattle.radio_clock.proofs.feed.radio_clock_feed.Tie as tie
 
 returns : tie.Need-returns
 unfolding feedInto
-returns c = simp (lt-ltb _ _ (c .if1 .taken))
+returns c = simp (lt-ltb (length (now (c .before .before .before .args .state))) 68 (omega arith))
 
 small : (c : tie.After-feed)
     → (c .feed .result .framer .count ≤ 255) × (eventNumber (answerOf (c .feed .result .event)) ≤ 255)

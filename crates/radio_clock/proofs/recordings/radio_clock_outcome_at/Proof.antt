@@ -1,17 +1,19 @@
 -- `radio_clock::recordings::radio_clock_outcome_at` meets its contract. Assumes nothing.
 use borrow.Author.Needs.{needs}
+use mathlib.Core.Path.{ap}
+use Rattle.clock_fields.specs.Called.{answered}
 use Rattle.radio_clock.proofs.recordings.radio_clock_outcome_at.Statement.{statement}
 use Rattle.radio_clock.proofs.recordings.radio_clock_outcome_at.Tie as tie
 
 returns : tie.Need-returns
 returns c =
     let d = c .before in
-    rw (← (d .before .before .outcome-at .ensures), d .n .given .1)
+    ap (answered _) (rw (d .n .given .1) at (d .before .before .outcome-at .ensures))
 
 returns-2 : tie.Need-returns-2
 returns-2 c =
     let d = c .before .before in
-    rw (← (d .before .before .outcome-at .ensures), d .e .given .1, c .error-number .ensures)
+    rw (c .error-number .ensures) (ap (answered _) (rw (d .e .given .1) at (d .before .before .outcome-at .ensures)))
 
 pub radio-clock-outcome-at-spec : {M : Type 1} → statement M
 radio-clock-outcome-at-spec =

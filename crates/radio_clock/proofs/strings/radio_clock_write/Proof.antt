@@ -1,5 +1,6 @@
 -- `radio_clock::strings::radio_clock_write` meets its contract. Assumes nothing.
 use borrow.Author.Needs.{needs}
+use native.Mathlib.Omega.{arith}
 use denote.Ref.{now}
 use Rattle.radio_clock.specs.Strings.{kindNamed, writeFrom}
 use Rattle.radio_clock.proofs.CalledLaws.{counted-from}
@@ -10,7 +11,7 @@ use Rattle.radio_clock.proofs.strings.radio_clock_write.Tie as tie
 returns : tie.Need-returns
 returns c =
     let x = c .before .before .args in
-    rw (write-unknown (x .kind) (now (x .fields)) (now (x .out)) (c .if1 .taken))
+    rw (write-unknown (x .kind) (now (x .fields)) (now (x .out)) (omega arith))
 
 returns-2 : tie.Need-returns-2
 unfolding writeFrom kindNamed
@@ -24,7 +25,7 @@ returns-3 c =
     let w = c .before .before .before .before in
     let i = w .before .before in
     let x = i .before .before .before .args in
-    rw (← (write-plain (x .kind) (now (x .fields)) (now (x .out)) (i .before .if1 .left) (i .if2 .left)))
+    rw (← (write-plain (x .kind) (now (x .fields)) (now (x .out)) (omega arith) (i .if2 .left)))
     (counted-from (w .write-plain .result) _ _ _ _ _ (c .put-written2 .ensures) (w .write-plain .ensures))
 
 pub radio-clock-write-spec : {M : Type 1} → statement M

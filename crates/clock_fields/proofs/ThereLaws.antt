@@ -8,7 +8,7 @@ use lib.Dec.{T, leb, eqb, ltb, lit<}
 use lib.ListN.{length, getD}
 use lib.IntN.{ℤ, pos, negsuc, natAbs}
 use borrow.Author.Tests.{leb-true, eqb-true}
-use Rattle.clock_time.specs.Errors.{Answer, accepted, refused}
+use Rattle.clock_time.specs.Errors.{accepted}
 use Rattle.clock_time.specs.Same.{eqℤ}
 use Rattle.clock_time.specs.declared.ClockTime.{ClockTime}
 use Rattle.clock_time.proofs.Tests.{both}

@@ -8,7 +8,7 @@ pub record Called (M : Type 0) : Type 0 where
   pub status : ℕ
   pub memory : M
 
--- these two
+-- a status with that memory
 abbrev pub called : {M : Type 0} → ℕ → M → Called M
 called status memory = record { status = status; memory = memory }
 

@@ -10,7 +10,7 @@ use meinberg_gps::GpsAnswer;
 use meinberg_gps::GpsTime;
 ghost use mathlib.Core.Path.{_≡_};
 ghost use mathlib.Core.Bool.{true};
-ghost use Prim.Native.Nat.{_<_, _≤_};
+ghost use Prim.Native.Nat.{_<_};
 ghost use lib.IntN.{natAbs};
 ghost use lib.ListN.{length};
 ghost use Rattle.layout.specs.Text.{readAnswer};
@@ -20,68 +20,25 @@ ghost use Rattle.clock_fields.specs.Ranges.{within, upTo, i16Range, time
 ghost use Rattle.clock_fields.specs.Ranges.{fits, at, isSet, timeFrom, gpsFrom, minuteFrom, timeOf};
 ghost use Rattle.clock_fields.specs.Ranges.{firstTimeOf, gpsOf, minuteOf};
 
-// The ends of the ranges of a GPS string's places, of which the first 14 are a clock time's.
-const GPS_LEAST: [i32; 17] = [
-    0,
-    0,
-    0,
-    0,
-    0,
-    0,
-    0,
-    -32768,
-    0,
-    0,
-    0,
-    0,
-    0,
-    0,
-    -2147483648,
-    -2147483648,
-    0,
-];
+// The most in 16 and in 8 bits without a sign.
+const W: i32 = 65535;
 
-const GPS_MOST: [i32; 17] = [
-    65535,
-    255,
-    255,
-    255,
-    255,
-    255,
-    255,
-    32767,
-    1,
-    1,
-    1,
-    1,
-    1,
-    1,
-    2147483647,
-    2147483647,
-    65535,
-];
+const B: i32 = 255;
+
+// The least and the most in 32 bits with a sign.
+const MIN: i32 = -2147483648;
+
+const MAX: i32 = 2147483647;
+
+// The ends of the ranges of a GPS string's places, of which the first 14 are a clock time's.
+const GPS_LEAST: [i32; 17] = [0, 0, 0, 0, 0, 0, 0, -32768, 0, 0, 0, 0, 0, 0, MIN, MIN, 0];
+
+const GPS_MOST: [i32; 17] = [W, B, B, B, B, B, B, 32767, 1, 1, 1, 1, 1, 1, MAX, MAX, W];
 
 // The same of a minute's places.
 const MINUTE_LEAST: [i32; 16] = [0, 0, 0, 0, 0, 0, 0, -32768, 0, 0, 0, 0, 0, 0, 0, 0];
 
-const MINUTE_MOST: [i32; 16] = [
-    65535,
-    255,
-    255,
-    255,
-    255,
-    255,
-    255,
-    32767,
-    1,
-    1,
-    1,
-    1,
-    1,
-    1,
-    65535,
-    1,
-];
+const MINUTE_MOST: [i32; 16] = [W, B, B, B, B, B, B, 32767, 1, 1, 1, 1, 1, 1, W, 1];
 
 // True where the first numbers are in the ranges with these ends. It looks at all, which is quicker than to stop early.
 fn are_within(least: &[i32], most: &[i32], z: &[i32]) -> bool

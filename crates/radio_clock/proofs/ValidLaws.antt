@@ -1,6 +1,6 @@
 -- What a reader accepts is a valid reading, whatever the format, and a valid reading's numbers are small. Assumes
 -- nothing.
-use Prim.Native.Nat.{ℕ, suc, _≤_}
+use Prim.Native.Nat.{ℕ, _≤_}
 use native.Mathlib.Omega.{arith}
 use mathlib.Core.Path.{_≡_, refl}
 use mathlib.Core.Bool.{Bool, true, false, cond, _&&_, _||_}
@@ -35,8 +35,8 @@ use Rattle.dcf77.specs.Marks.{long, twoDigits}
 use Rattle.dcf77.specs.Minute.{announced, minuteFields, readMinute}
 use Rattle.dcf77.specs.declared.MinuteTime.{MinuteTime}
 use Rattle.dcf77.proofs.Theorems as minute
-use Rattle.clock_fields.specs.Ranges.{range, i16Range, i32Range, within}
-use Rattle.clock_fields.specs.Held.{Holds, HoldsPosition}
+use Rattle.clock_fields.specs.Ranges.{range, i16Range, within}
+use Rattle.clock_fields.specs.Held.{Holds}
 
 -- ---- valid readings
 year-known : (n : ℕ) → (1970 ≤ fullYear n) × (fullYear n ≤ 2069)

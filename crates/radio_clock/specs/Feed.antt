@@ -45,7 +45,7 @@ pub record FeedMemory : Type 0 where
   pub taken : ℕ
   pub event : ℕ
 
--- these three
+-- a state with what stands behind the pointers
 abbrev pub feedMemory : List ℕ → ℕ → ℕ → FeedMemory
 feedMemory state taken event = record { state = state; taken = taken; event = event }
 

@@ -2,8 +2,9 @@
 use Prim.Native.Nat.{ℕ, _%_, _≤_, _<_}
 use native.Mathlib.Omega.{arith}
 use mathlib.Core.Path.{_≡_, refl, sym, _∙_}
-use mathlib.Core.Bool.{Bool, true, false, _&&_, _||_}
+use mathlib.Core.Bool.{Bool, true, false, cond, _&&_, _||_}
 use lib.Dec.{leb, ltb, eqb}
+use lib.IntN.{pos}
 use borrow.Author.Tests.{leb-true, ltb-true, eqb-true, le-leb}
 use Rattle.clock_time.specs.declared.ClockTime.{ClockTime}
 use Rattle.clock_time.proofs.Tests.{both}
@@ -75,3 +76,10 @@ checked-valid t n y date time monday sunday offset =
 pub year-back : (y : ℕ) → 1970 ≤ y → y ≤ 2069 → fullYear (y % 100) ≡ y
 unfolding fullYear
 year-back y first last = omega arith
+
+-- the offsets of receivers that know UTC, CET and CEST
+pub zone-in-range : (utc summer : Bool) → offsetInRange (cond utc (pos 0) (cond summer (pos 120) (pos 60))) ≡ true
+unfolding offsetInRange
+zone-in-range true summer = refl
+zone-in-range false true = refl
+zone-in-range false false = refl

@@ -18,6 +18,7 @@ use Rattle.clock_time.proofs.Tests.{both, below-at}
 use Rattle.calendar.specs.Date.{dateExists, fullYear, knownDate, weekdayOf, weekdayNumber, weekdayOrZero}
 use Rattle.calendar.specs.TimeOfDay.{timeExists}
 use Rattle.calendar.specs.UnixTime.{isValid}
+use Rattle.calendar.proofs.ValidLaws.{zone-in-range}
 use Rattle.calendar.proofs.DateLaws.{known-exists}
 use Rattle.decimal.specs.Decimal.{digits, value, valueFrom}
 use Rattle.decimal.proofs.DecimalLaws.{value-digits, digit-range}
@@ -28,7 +29,7 @@ use Rattle.layout.specs.Text.{clockChecks}
 use Rattle.layout.proofs.LayoutLaws.{tested-fits, digit-place}
 use Rattle.layout.proofs.TextLaws.{read-fitting}
 use Rattle.layout.proofs.WriteLaws.{restore-fits, digits-number, digits-year}
-use Rattle.layout.proofs.DecideLaws.{digit-fits, Written, written, DecidesClock, zone-in-range}
+use Rattle.layout.proofs.DecideLaws.{digit-fits, Written, written, DecidesClock}
 use Rattle.elv_dcf7000.specs.Elv.{elvLayout, elvFlags, elvFlagFault, summerIn, changeIn, unsynchronisedIn}
 use Rattle.elv_dcf7000.specs.Elv.{elvOffset, sentFields, withWeekday, elvFields, flagSum, elvText, elvCarries}
 use Rattle.elv_dcf7000.specs.Elv.{elv, readElv, writeElv}

@@ -1,16 +1,19 @@
 -- The main results of the ELV string. Assumes nothing.
 use Prim.Native.Nat.{ℕ}
 use mathlib.Core.Path.{_≡_}
+use mathlib.Core.Bool.{true}
 use mathlib.Core.List.{List}
 use Rattle.clock_time.specs.Errors.{accepted}
 use Rattle.clock_time.specs.Faithful.{Faithful}
 use Rattle.clock_time.specs.declared.ClockTime.{ClockTime}
 use Rattle.clock_time.proofs.SameLaws.{sameTime-refl, sameTime-true}
 use Rattle.calendar.specs.Date.{weekdayOf}
+use Rattle.calendar.specs.UnixTime.{isValid}
 use Rattle.layout.specs.Accepts.{Accepts}
+use Rattle.layout.proofs.DecideLaws.{clock-valid}
 use Rattle.layout.proofs.Theorems as text
 use Rattle.elv_dcf7000.specs.Elv.{sentFields, withWeekday, elvFields, elv, readElv, writeElv}
-use Rattle.elv_dcf7000.proofs.ElvLaws.{read-weekday, elv-back}
+use Rattle.elv_dcf7000.proofs.ElvLaws.{read-weekday, elv-back, decides}
 
 -- demand 2: acceptance, the fields read, and what is written
 pub faithful : Faithful (Accepts elv) elvFields readElv writeElv
@@ -22,3 +25,8 @@ pub weekday-read : (s : List ℕ) (t : ClockTime) → readElv s ≡ accepted t
     → weekdayOf (t .year) (t .month) (t .day) ≡ accepted (t .weekday)
 unfolding elvFields withWeekday sentFields
 weekday-read s t h = let r = faithful .accepted-exactly s t .0 h in rw (r .1) (read-weekday s (r .0))
+
+-- what is read is a valid reading
+pub valid-read : (s : List ℕ) (t : ClockTime) → readElv s ≡ accepted t → isValid t ≡ true
+unfolding readElv elv
+valid-read = clock-valid decides

@@ -5,10 +5,9 @@ use Prim.Native.Char.{Char, code}
 use native.Mathlib.Nat.{mod-eq-of-lt}
 use native.Mathlib.Omega.{arith}
 use mathlib.Core.Path.{_≡_, refl, sym, _∙_}
-use mathlib.Core.Bool.{Bool, true, false, cond, _&&_, _||_}
+use mathlib.Core.Bool.{Bool, true, false, _&&_, _||_}
 use mathlib.Core.List.{List}
 use lib.Dec.{eqb, leb}
-use lib.IntN.{pos}
 use borrow.Author.Tests.{eq-eqb, ne-eqb, le-leb}
 use Rattle.clock_time.specs.Errors.{accepted}
 use Rattle.clock_time.specs.Writing.{writing, writeBack}
@@ -77,13 +76,6 @@ written t h =
       second = value-digits 2 (t .second) (omega (arith, v .second));
     }
 
--- the offsets of receivers that know UTC, CET and CEST
-pub zone-in-range : (utc summer : Bool) → offsetInRange (cond utc (pos 0) (cond summer (pos 120) (pos 60))) ≡ true
-unfolding offsetInRange
-zone-in-range true summer = refl
-zone-in-range false true = refl
-zone-in-range false false = refl
-
 -- ---- deciding
 -- What a writer needs to know of its format to decide from a value: which of them it carries.
 pub record Decides {A : Type 0} (f : Format A) (carries : A → Bool) : Type 0 where
@@ -100,7 +92,7 @@ pub record Decides {A : Type 0} (f : Format A) (carries : A → Bool) : Type 0 w
   pub says : (a : A) → isValid (f .clock a) ≡ true → carries a ≡ true → f .fields (f .text a) ≡ a
 
 module _ {A : Type 0} (f : Format A) (carries : A → Bool) (d : Decides f carries) where
-  pub read-valid : (s : List ℕ) → Accepts f s → isValid (f .clock (f .fields s)) ≡ true
+  read-valid : (s : List ℕ) → Accepts f s → isValid (f .clock (f .fields s)) ≡ true
   read-valid s r =
       let y = d .year s in
       checked-valid (f .clock (f .fields s)) (y .0) (y .1) (r .date) (r .time) (r .monday) (r .sunday) (d .offset s r)
@@ -130,6 +122,9 @@ module _ {A : Type 0} (f : Format A) (carries : A → Bool) (d : Decides f carri
   reads a e =
       let w = both (isValid (f .clock a)) (carries a) e in
       accepts-read f (f .text a) (text-accepted a (w .0) (w .1)) ∙ rw (d .says a (w .0) (w .1))
+
+  pub valid-answer : (s : List ℕ) (a : A) → readText f s ≡ accepted a → isValid (f .clock a) ≡ true
+  valid-answer s a e = both (isValid (f .clock a)) (carries a) (passes s a e) .0
 
   -- the writer's code: the two tests, and the bytes of the text
   pub writes : ((a : A) → f .same a a ≡ true) → ((a b : A) → f .same a b ≡ true → a ≡ b)
@@ -175,6 +170,10 @@ module _
           agrees = λ t h k. refl;
           says = d .says;
         }
+
+    pub clock-valid : (s : List ℕ) (t : ClockTime) → readText (clockFormat layout fault fields text) s ≡ accepted t
+        → isValid t ≡ true
+    clock-valid = valid-answer (clockFormat layout fault fields text) carries clock-decides
 
     pub clock-writes : (t : ClockTime) {u v : Bool} {bytes : List ℕ} → u ≡ isValid t → v ≡ carries t → bytes ≡ text t
         → (buffer : List ℕ) → writing (u && v) bytes buffer ≡ writeText (clockFormat layout fault fields text) t buffer

@@ -24,7 +24,7 @@ use Rattle.meinberg_gps.specs.declared.GpsTime.{GpsTime}
 use Rattle.meinberg_gps.proofs.OffsetLaws.{OffsetRead, offset-read, offset-in-range}
 use Rattle.meinberg_gps.proofs.BackLaws.{sameGps-refl, sameGps-true}
 
-abbrev gpsCarries : GpsTime → Bool
+abbrev pub gpsCarries : GpsTime → Bool
 gpsCarries g = positionCarried (g .position)
 
 text-fits : (g : GpsTime) → FitsLayout gpsLayout (gpsText g)
@@ -82,7 +82,7 @@ position-part : (g : GpsTime) → gpsCarries g ≡ true → PositionRead (g .pos
 unfolding gpsText pzfText offsetText positionText angleBytes aligned padded ascii digits
 position-part g k = position-read (g .position) k (gpsText g) refl
 
-decides : Decides gps gpsCarries
+pub decides : Decides gps gpsCarries
 unfolding gps gpsFields clockOf
 decides =
     record {

@@ -1,12 +1,25 @@
 -- The main results of the PZF string. Assumes nothing.
+use Prim.Native.Nat.{ℕ}
+use mathlib.Core.Path.{_≡_}
+use mathlib.Core.Bool.{true}
+use mathlib.Core.List.{List}
+use Rattle.clock_time.specs.Errors.{accepted}
 use Rattle.clock_time.specs.Faithful.{Faithful}
+use Rattle.clock_time.specs.declared.ClockTime.{ClockTime}
 use Rattle.clock_time.proofs.SameLaws.{sameTime-refl, sameTime-true}
+use Rattle.calendar.specs.UnixTime.{isValid}
 use Rattle.layout.specs.Accepts.{Accepts}
+use Rattle.layout.proofs.DecideLaws.{clock-valid}
 use Rattle.layout.proofs.Theorems as text
 use Rattle.meinberg_pzf.specs.Pzf.{pzfFields, pzf, readPzf, writePzf}
-use Rattle.meinberg_pzf.proofs.PzfLaws.{pzf-back}
+use Rattle.meinberg_pzf.proofs.PzfLaws.{pzf-back, decides}
 
 -- demand 2: acceptance, the fields read, and what is written
 pub faithful : Faithful (Accepts pzf) pzfFields readPzf writePzf
 unfolding readPzf writePzf pzf
 faithful = text.faithful pzf (λ s r. pzf-back s (r .fits)) sameTime-refl sameTime-true
+
+-- what is read is a valid reading
+pub valid-read : (s : List ℕ) (t : ClockTime) → readPzf s ≡ accepted t → isValid t ≡ true
+unfolding readPzf pzf
+valid-read = clock-valid decides

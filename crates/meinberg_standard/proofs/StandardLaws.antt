@@ -15,11 +15,12 @@ use Rattle.clock_time.specs.declared.ClockTime.{ClockTime}
 use Rattle.clock_time.proofs.SameLaws.{eqℤ-refl, eqℤ-true, eqb-refl, beq-refl, sameTime-true}
 use Rattle.clock_time.proofs.Tests.{both}
 use Rattle.calendar.specs.UnixTime.{isValid}
+use Rattle.calendar.proofs.ValidLaws.{zone-in-range}
 use Rattle.decimal.specs.Decimal.{digits}
 use Rattle.layout.specs.Ascii.{ascii}
 use Rattle.layout.specs.Layout.{allowed, fitsFrom, FitsLayout, number}
 use Rattle.layout.proofs.LayoutLaws.{tested-fits}
-use Rattle.layout.proofs.DecideLaws.{digit-fits, letter-fits, letter-read, Written, written, DecidesClock, zone-in-range}
+use Rattle.layout.proofs.DecideLaws.{digit-fits, letter-fits, letter-read, Written, written, DecidesClock}
 use Rattle.layout.proofs.WriteLaws.{restore-fits, digits-number, digits-year, letter-back, either-all}
 use Rattle.meinberg_standard.specs.Standard.{standardLayout, standardZone, standardFields}
 use Rattle.meinberg_standard.specs.Standard.{zoneLetter, announcedLetter, standardText, standardCarries}

@@ -46,8 +46,7 @@ use Rattle.radio_clock.specs.Strings.{kindNamed, clockOf, readingNumbers
 use Rattle.radio_clock.specs.Strings.{unixTimeOf}
 use Rattle.radio_clock.specs.Minutes.{writeMinuteFrom}
 use Rattle.radio_clock.specs.Feed.{modeOf, framerIn, stateBytes, eventNumber, feedMemory, feedInto}
-use Rattle.radio_clock.proofs.ValidLaws.{valid-holds, standard-valid, pzf-valid, elv-valid, gps-valid}
-use Rattle.radio_clock.proofs.ValidLaws.{minute-valid, size-within}
+use Rattle.radio_clock.proofs.ValidLaws.{valid-holds, minute-valid, size-within}
 use Rattle.clock_fields.proofs.BackLaws.{time-back, first-back, gps-back, minute-back}
 use Rattle.radio_clock.proofs.StateLaws.{state-back}
 use Rattle.radio_clock.proofs.FeedLaws.{feed-whole}
@@ -120,30 +119,30 @@ module _ (s : List ℕ) (r : Reading) where
   unfolding readAs writeAs
   write-kind Standard h d room =
       let w = plain-time _ r h in
-      rw (w .2) (handed-on (w .0) (standard-valid s (w .0) (w .1)) writeStandard d
+      rw (w .2) (handed-on (w .0) (standard-string.valid-read s (w .0) (w .1)) writeStandard d
       ∙ standard-string.faithful .written-back s (w .0) (w .1) d room)
   write-kind Pzf h d room =
       let w = plain-time _ r h in
-      rw (w .2) (handed-on (w .0) (pzf-valid s (w .0) (w .1)) writePzf d
+      rw (w .2) (handed-on (w .0) (pzf-string.valid-read s (w .0) (w .1)) writePzf d
       ∙ pzf-string.faithful .written-back s (w .0) (w .1) d room)
   write-kind Gps h d room =
       let w = located-time _ r h in
       let g = w .0 in
-      let holds = valid-holds (g .time) (gps-valid s g (w .1)) in
+      let holds = valid-holds (g .time) (gps-string.valid-read s g (w .1)) in
       rw (w .2, gps-back g holds (position-holds s g (w .1)))
       (gps-string.faithful .written-back s g (w .1) d room)
   write-kind Elv h d room =
       let w = plain-time _ r h in
-      rw (w .2) (handed-on (w .0) (elv-valid s (w .0) (w .1)) writeElv d
+      rw (w .2) (handed-on (w .0) (elv-string.valid-read s (w .0) (w .1)) writeElv d
       ∙ elv-string.faithful .written-back s (w .0) (w .1) d room)
 
   valid-kind : (k : Kind) → readAs k s ≡ accepted r
       → (isValid (clockOf r) ≡ true) × (z : List ℤ) × (readingNumbers r ≡ timeNumbers (clockOf r) ++ z)
   unfolding readAs gpsNumbers
-  valid-kind Standard h = let w = plain-time _ r h in rw (w .2) (standard-valid s (w .0) (w .1), [], alone (w .0))
-  valid-kind Pzf h = let w = plain-time _ r h in rw (w .2) (pzf-valid s (w .0) (w .1), [], alone (w .0))
-  valid-kind Gps h = let w = located-time _ r h in rw (w .2) (gps-valid s (w .0) (w .1), _, refl)
-  valid-kind Elv h = let w = plain-time _ r h in rw (w .2) (elv-valid s (w .0) (w .1), [], alone (w .0))
+  valid-kind Standard h = let w = plain-time _ r h in rw (w .2) (standard-string.valid-read s (w .0) (w .1), [], alone (w .0))
+  valid-kind Pzf h = let w = plain-time _ r h in rw (w .2) (pzf-string.valid-read s (w .0) (w .1), [], alone (w .0))
+  valid-kind Gps h = let w = located-time _ r h in rw (w .2) (gps-string.valid-read s (w .0) (w .1), _, refl)
+  valid-kind Elv h = let w = plain-time _ r h in rw (w .2) (elv-string.valid-read s (w .0) (w .1), [], alone (w .0))
 
 -- ---- the results
 pub write-read : (n : ℕ) (s : List ℕ) (r : Reading) → readNumbered n s ≡ accepted r

@@ -19,7 +19,8 @@ use Rattle.clock_fields.specs.Ranges.{numbered}
 
 -- ---- a number in a range
 -- a number from 0 on in as many bits as hold its range
-pub upTo-fits : (w : Width) (m : ℕ) (z : ℤ) → m < 2 ^ bits w → within (upTo m) z ≡ true → T (nonNeg z) × Fits w (natAbs z)
+pub upTo-fits : (w : Width) (m : ℕ) (z : ℤ) → m < 2 ^ bits w → within (upTo m) z ≡ true
+    → T (nonNeg z) × Fits w (natAbs z)
 upTo-fits w m (pos n) small h =
     let k = leb-true n m (both (leb 0 n) (leb n m) h .1) in (tt, record { fits = omega arith })
 upTo-fits w m (negsuc n) small h = absurd (false≢true h)

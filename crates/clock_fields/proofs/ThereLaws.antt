@@ -70,7 +70,8 @@ module _ (z : List ℤ) where
   gps-there : fits gpsRanges z ≡ true → gpsNumbers (gpsFrom z) ≡ listed 17 (λ i. at i z)
   unfolding gpsRanges timeRanges gpsNumbers gpsFrom
   gps-there h =
-      rw (time-there (fits-first timeRanges _ z h)) (simp (abs-there 65535 (at 16 z) (fits-at gpsRanges z h 16 (lit< tt) .1)))
+      rw (time-there (fits-first timeRanges _ z h))
+      (simp (abs-there 65535 (at 16 z) (fits-at gpsRanges z h 16 (lit< tt) .1)))
 
   minute-there : fits minuteRanges z ≡ true → minuteNumbers (minuteFrom z) ≡ listed 16 (λ i. at i z)
   unfolding minuteRanges timeRanges minuteNumbers minuteFrom

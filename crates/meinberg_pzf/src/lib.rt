@@ -176,8 +176,11 @@ fn line_with(t: ClockTime, utc: u8, u: u8, v: u8, x: u8, y: u8, z: u8, a: u8) ->
     ]
 }
 
+// The bytes of a PZF string.
+pub type PzfBytes = [u8; 32];
+
 // The only PZF string that could be read as `t`.
-pub fn line_of(t: ClockTime) -> [u8; 32]
+pub fn line_of(t: ClockTime) -> PzfBytes
     ensures { λ r. ⌜ r ≡ pzfText t ⌝ }
 {
     let utc = layout::letter_if(clock_time::same_offset(t.utc_offset, 0), b'U');

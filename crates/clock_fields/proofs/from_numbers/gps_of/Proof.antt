@@ -13,7 +13,8 @@ gps-from-requires : tie.Need-gps-from-requires
 unfolding ranges gpsRanges timeRanges
 gps-from-requires c κs =
     let z = now (c .before .before .before .before .args .z) in
-    both (eqb (length z) (length gpsRanges)) (fits gpsRanges z) (rw (c .before .are-within .ensures) at (c .if1 .taken)) .1
+    both (eqb (length z) (length gpsRanges)) (fits gpsRanges z)
+    (rw (c .before .are-within .ensures) at (c .if1 .taken)) .1
 
 returns : tie.Need-returns
 unfolding ranges gpsRanges timeRanges

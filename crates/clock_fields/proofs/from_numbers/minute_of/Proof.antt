@@ -13,7 +13,8 @@ minute-from-requires : tie.Need-minute-from-requires
 unfolding ranges minuteRanges timeRanges
 minute-from-requires c κs =
     let z = now (c .before .before .before .before .args .z) in
-    both (eqb (length z) (length minuteRanges)) (fits minuteRanges z) (rw (c .before .are-within .ensures) at (c .if1 .taken)) .1
+    both (eqb (length z) (length minuteRanges)) (fits minuteRanges z)
+    (rw (c .before .are-within .ensures) at (c .if1 .taken)) .1
 
 returns : tie.Need-returns
 unfolding ranges minuteRanges timeRanges

@@ -67,6 +67,10 @@ time-from-spec =
     (λ c κs. place (c .before .before .before .before .before .before .before .before .before) 9 tt .0)
     (λ c κs. place (c .before .before .before .before .before .before .before .before .before .before) 10 tt .0)
     (λ c κs. place (c .before .before .before .before .before .before .before .before .before .before .before) 11 tt .0)
-    (λ c κs. place (c .before .before .before .before .before .before .before .before .before .before .before .before) 12 tt .0)
-    (λ c κs. place (c .before .before .before .before .before .before .before .before .before .before .before .before .before) 13 tt .0)
+    (λ c κs.
+    let f = c .before .before .before .before .before .before in
+    place (f .before .before .before .before .before .before) 12 tt .0)
+    (λ c κs.
+    let f = c .before .before .before .before .before .before in
+    place (f .before .before .before .before .before .before .before) 13 tt .0)
     returns)

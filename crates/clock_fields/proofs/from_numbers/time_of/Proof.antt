@@ -13,7 +13,8 @@ time-from-requires : tie.Need-time-from-requires
 unfolding timeRanges
 time-from-requires c κs =
     let z = now (c .before .before .args .z) in
-    both (eqb (length z) (length timeRanges)) (fits timeRanges z) (rw (c .before .is-time .ensures) at (c .if1 .taken)) .1
+    both (eqb (length z) (length timeRanges)) (fits timeRanges z)
+    (rw (c .before .is-time .ensures) at (c .if1 .taken)) .1
 
 returns : tie.Need-returns
 unfolding timeRanges

@@ -25,9 +25,10 @@ returns : tie.Need-returns
 returns c =
     let n = c .before .before .before .before in
     let x = n .before .args in
+    let fits = n .before .fits in
     c .before .put-numbers .ensures
     ∙ ap (λ (z : List ℤ). left (putNumbers (take (x .count) z) (now (x .fields))))
-    (n .numbers-with .ensures ∙ simp (toZ-ofZ (n .before .fits .a), toZ-ofZ (n .before .fits .b), toZ-ofZ (n .before .fits .c)))
+    (n .numbers-with .ensures ∙ simp (toZ-ofZ (fits .a), toZ-ofZ (fits .b), toZ-ofZ (fits .c)))
 
 pub put-with-spec : {M : Type 1} → statement M
 put-with-spec =

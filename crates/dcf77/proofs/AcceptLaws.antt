@@ -22,7 +22,7 @@ all-three t a b c h e =
     let w = both a b (last .0) in
     (w .0, w .1, last .1)
 
-leap-passes : (n : ℕ) (t : Bool) → (n ≡ 60 → t ≡ true) → (eqb n 60 && not t) ≡ false
+pub leap-passes : (n : ℕ) (t : Bool) → (n ≡ 60 → t ≡ true) → (eqb n 60 && not t) ≡ false
 leap-passes n t h = go (eqb n 60) refl
   where
     go : (u : Bool) → eqb n 60 ≡ u → (u && not t) ≡ false

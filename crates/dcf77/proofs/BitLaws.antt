@@ -1,6 +1,6 @@
 -- Marks and the bits of their numbers, over any number of marks. Assumes nothing.
-use Prim.Native.Nat.{ℕ, zero, suc, _+_, _/_, _%_, _≤_, _<_}
-use native.Mathlib.Nat.{zero-add, add-zero, add-suc, suc-add, add-comm}
+use Prim.Native.Nat.{ℕ, zero, suc, _+_, _*_, _/_, _%_, _^_, _≤_, _<_}
+use native.Mathlib.Nat.{zero-add, add-zero, add-suc, suc-add, add-comm, pow-succ'}
 use native.Mathlib.Numerals.{add-one}
 use native.Mathlib.Omega.{arith}
 use mathlib.Core.Path.{_≡_, refl, ap, _∙_}
@@ -58,6 +58,23 @@ module _ (m : List ℕ) (small : (k : ℕ) → getD m k 0 ≤ 1) where
   parity-last k at even =
       rw (parity-mark k at (rw (add-one k) at even), add-comm at k) (marks-join m k 1 at)
 
+-- a mark that is the sum of those before it modulo 2 makes the whole even
+pub parity-even : (m : List ℕ) (k at : ℕ) → getD m (at + k) 0 ≡ sum (marksFrom k at m) % 2 → longs (suc k) at m % 2 ≡ 0
+parity-even m k at last = rw (longs-last m k at, last) (omega arith)
+
+later-binary : (k at b : ℕ) (m : List ℕ) → binary k (suc at) (b ∷ m) ≡ binary k at m
+unfolding binary
+later-binary zero at b m = refl
+later-binary (suc k) at b m = ap (λ (n : ℕ). getD m at 0 + 2 * n) (later-binary k (suc at) b m)
+
+-- the number of a number's bits
+pub binary-bits : (k n : ℕ) → n < 2 ^ k → binary k 0 (bits k n) ≡ n
+unfolding binary bits
+binary-bits zero n h = omega arith
+binary-bits (suc k) n h =
+    let below : n < 2 * 2 ^ k = rw (pow-succ' 2 k) at h in
+    rw (later-binary k 0 (n % 2) (bits k (n / 2)), binary-bits k (n / 2) (omega arith)) (omega arith)
+
 -- ---- a number of two digits
 module _ (m : List ℕ) (at tens : ℕ) (digit : binary 4 at m ≤ 9) where
   pub ones-digit : twoDigits at tens m % 10 ≡ binary 4 at m
@@ -67,6 +84,11 @@ module _ (m : List ℕ) (at tens : ℕ) (digit : binary 4 at m ≤ 9) where
   pub tens-digit : twoDigits at tens m / 10 ≡ binary tens (4 + at) m
   unfolding twoDigits
   tens-digit = omega arith
+
+pub two-digits : (m : List ℕ) (at tens n : ℕ) → binary 4 at m ≡ n % 10 → binary tens (4 + at) m ≡ n / 10
+    → twoDigits at tens m ≡ n
+unfolding twoDigits
+two-digits m at tens n low high = rw (low, high) (omega arith)
 
 pub year-digits : (n : ℕ) → n < 100 → (fullYear n % 10 ≡ n % 10) × (fullYear n / 10 % 10 ≡ n / 10)
 unfolding fullYear

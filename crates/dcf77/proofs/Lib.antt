@@ -7,6 +7,8 @@ pub mod BitLaws
 pub mod BackLaws
 pub mod SameLaws
 pub mod RunLaws
+pub mod TextLaws
+pub mod WriteLaws
 pub mod SpellLaws
 pub mod LineLaws
 pub mod Theorems

@@ -17,7 +17,7 @@ ghost use Rattle.dcf77.specs.Minute.{announced, minuteFields, minuteAnsw
 ghost use Rattle.dcf77.specs.Numbers.{Sure, Numbers, checkedFrom};
 
 // The offset of the announced time.
-fn zone_offset(summer: bool) -> i16
+pub(crate) fn zone_offset(summer: bool) -> i16
     ensures { λ r. ⌜ r ≡ cond summer (pos 120) (pos 60) ⌝ }
 {
     if summer {

@@ -1,18 +1,19 @@
 // The marks of a minute, made as the bits of one number. Each `spell_` function returns the number whose bits are the
 // marks of its part of the run, mark 0 the lowest.
-use crate::MinuteAnswer;
 use crate::MinuteTime;
 use crate::marks;
+use crate::reading;
 use clock_time::WriteAnswer;
 ghost use mathlib.Core.Path.{_≡_};
-ghost use mathlib.Core.Bool.{not};
+ghost use mathlib.Core.Bool.{cond, not};
 ghost use mathlib.Core.List.{[], _∷_, _++_};
 ghost use Prim.Native.Nat.{_/_, _%_};
-ghost use Rattle.clock_time.specs.Writing.{outcome, isAccepted};
+ghost use lib.IntN.{pos};
+ghost use Rattle.clock_time.specs.Same.{eqℤ};
+ghost use Rattle.clock_time.specs.Writing.{outcome};
 ghost use Rattle.dcf77.specs.Marks.{bits};
-ghost use Rattle.dcf77.specs.Numbers.{Spells};
-ghost use Rattle.dcf77.specs.Minute.{minuteAnswer, mark, withParity, firstMarks, minuteText};
-ghost use Rattle.dcf77.specs.Minute.{sameMinute, writeMinute};
+ghost use Rattle.dcf77.specs.Numbers.{Spells, fieldsFit, isWritable};
+ghost use Rattle.dcf77.specs.Minute.{mark, withParity, firstMarks, minuteText, writeMinute};
 
 // Marks 15 to 20.
 fn spell_flags(antenna: bool, change: bool, summer: bool, leap: bool) -> u64
@@ -98,26 +99,39 @@ pub(crate) fn line_of(a: MinuteTime) -> [u8; 60]
     put_bits(spell_run(a))
 }
 
-// True where two minutes agree in every field.
-fn same_minute(a: MinuteTime, b: MinuteTime) -> bool
-    ensures { λ r. ⌜ r ≡ sameMinute a b ⌝ }
+// True where the offset is that of the zone.
+fn is_zone_offset(offset: i16, summer: bool) -> bool
+    ensures { λ r. ⌜ r ≡ eqℤ offset (cond summer (pos 120) (pos 60)) ⌝ }
 {
-    let time = a.time;
-    let other = b.time;
-    let same = clock_time::same_time(time, other);
-    let detail = a.detail;
-    let more = b.detail;
-    same & (detail.marks == more.marks) & (detail.sixty == more.sixty)
+    offset == reading::zone_offset(summer)
 }
 
-// True where what was read is this minute.
-fn is_read_as(answer: MinuteAnswer, a: MinuteTime) -> bool
-    ensures { λ r. ⌜ r ≡ isAccepted sameMinute (minuteAnswer answer) a ⌝ }
+// True where a run of marks can have the fields, but for the date and the offset.
+fn fields_fit(a: MinuteTime) -> bool
+    ensures { λ r. ⌜ r ≡ fieldsFit a ⌝ }
 {
-    match answer {
-        MinuteAnswer::Read(b) => same_minute(b, a),
-        MinuteAnswer::Refused(_) => false,
-    }
+    let t = a.time;
+    let d = a.detail;
+    (1 <= t.weekday)
+        & (t.weekday <= 7)
+        & (t.hour < 24)
+        & (t.minute < 60)
+        & (t.second == 0)
+        & !t.unsynchronised
+        & !t.unverified
+        & (d.marks < 16384)
+        & !(d.sixty & !(t.leap_second_announced & (t.minute == 0)))
+}
+
+// True where a run of marks is read as the minute.
+fn is_writable(a: MinuteTime) -> bool
+    ensures { λ r. ⌜ r ≡ isWritable a ⌝ }
+{
+    let t = a.time;
+    let fits = fields_fit(a);
+    let known = calendar::date::is_known_date(t.year, t.month, t.day);
+    let zone = is_zone_offset(t.utc_offset, t.summer_time);
+    fits & known & zone
 }
 
 // Writes the run that is made of a minute, if it is read as that minute.
@@ -125,6 +139,6 @@ pub(crate) fn write_run(a: MinuteTime, run: &[u8], out: &mut [u8]) -> WriteAnswe
     requires { ⌜ now run ≡ minuteText a ⌝ }
     ensures { λ r. ⌜ outcome r (now (out .exit)) ≡ writeMinute a (now (out .entry)) ⌝ }
 {
-    let readable = is_read_as(crate::read_minute(run), a);
-    clock_time::write_bytes(readable, run, out)
+    let writable = is_writable(a);
+    clock_time::write_bytes(writable, run, out)
 }

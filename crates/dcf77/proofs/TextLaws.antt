@@ -1,0 +1,309 @@
+-- The run that is made of a minute whose fields pass the writer's test is accepted, and its fields are the minute's.
+-- Assumes nothing.
+use Prim.Native.Nat.{ℕ, zero, suc, _+_, _/_, _%_, _≤_, _<_, _^_}
+use native.Mathlib.Omega.{arith}
+use mathlib.Core.Path.{_≡_, refl, sym, ap, _∙_}
+use mathlib.Core.Logic.{_⊎_, inl, inr}
+use mathlib.Core.Bool.{Bool, true, false, cond, not, _&&_, and-assoc, false≢true}
+use mathlib.Core.List.{List, [], _∷_, _++_}
+use lib.Dec.{leb, ltb, eqb}
+use lib.IntN.{ℤ, pos, negsuc}
+use lib.ListN.{length, getD}
+use borrow.Author.Tests.{not-true, not-false, eqb-true, leb-true, ltb-true, lt-ltb}
+use Rattle.clock_time.specs.Same.{eqℤ}
+use Rattle.clock_time.proofs.Tests.{both}
+use Rattle.calendar.specs.Date.{sum, dateExists, knownDate, fullYear}
+use Rattle.calendar.specs.TimeOfDay.{timeExists}
+use Rattle.calendar.proofs.DateLaws.{Known, known}
+use Rattle.dcf77.specs.Marks.{long, allSure, binary, twoDigits, bits}
+use Rattle.dcf77.specs.Minute.{announced, minuteFields, mark, firstMarks, minuteText}
+use Rattle.dcf77.specs.Accepts.{AcceptsMinute}
+use Rattle.dcf77.specs.Numbers.{fieldsFit, isWritable}
+use Rattle.dcf77.specs.declared.MinuteTime.{MinuteTime}
+use Rattle.dcf77.proofs.MarkLaws.{sure-small}
+use Rattle.dcf77.proofs.BitLaws.{marksFrom, parity-even, binary-bits, two-digits}
+
+-- ---- what passes the test
+offset-told : (z : ℤ) (n : ℕ) → eqℤ z (pos n) ≡ true → z ≡ pos n
+unfolding eqℤ
+offset-told (pos m) n h = ap pos (eqb-true m n h)
+offset-told (negsuc m) n h = absurd (false≢true h)
+
+zone-told : (z : ℤ) (summer : Bool) → eqℤ z (cond summer (pos 120) (pos 60)) ≡ true
+    → z ≡ cond summer (pos 120) (pos 60)
+zone-told z true h = offset-told z 120 h
+zone-told z false h = offset-told z 60 h
+
+-- a minute whose fields pass
+pub record Fits (a : MinuteTime) : Type 0 where
+  known-date : knownDate (a .time .year) (a .time .month) (a .time .day) ≡ true
+  zone : a .time .«utc_offset» ≡ cond (a .time .«summer_time») (pos 120) (pos 60)
+  monday : 1 ≤ a .time .weekday
+  sunday : a .time .weekday ≤ 7
+  hour : a .time .hour < 24
+  minute : a .time .minute < 60
+  second : a .time .second ≡ 0
+  synchronised : a .time .unsynchronised ≡ false
+  verified : a .time .unverified ≡ false
+  marks : a .detail .marks < 16384
+  leap : (a .detail .sixty && not (a .time .«leap_second_announced» && eqb (a .time .minute) 0)) ≡ false
+
+pub fits : (a : MinuteTime) → isWritable a ≡ true → Fits a
+unfolding isWritable fieldsFit
+fits a h =
+    let t = a .time in
+    let zone = eqℤ (t .«utc_offset») (cond (t .«summer_time») (pos 120) (pos 60)) in
+    let z = both _ zone h in
+    let k = both _ (knownDate (t .year) (t .month) (t .day)) (z .0) in
+    let j = both _ (not (a .detail .sixty && not (t .«leap_second_announced» && eqb (t .minute) 0))) (k .0) in
+    let i = both _ (ltb (a .detail .marks) 16384) (j .0) in
+    let g = both _ (not (t .unverified)) (i .0) in
+    let f = both _ (not (t .unsynchronised)) (g .0) in
+    let e = both _ (eqb (t .second) 0) (f .0) in
+    let d = both _ (ltb (t .minute) 60) (e .0) in
+    let c = both _ (ltb (t .hour) 24) (d .0) in
+    let b = both (leb 1 (t .weekday)) (leb (t .weekday) 7) (c .0) in
+    record {
+      known-date = k .1;
+      zone = zone-told (t .«utc_offset») (t .«summer_time») (z .1);
+      monday = leb-true _ _ (b .0);
+      sunday = leb-true _ _ (b .1);
+      hour = ltb-true _ _ (c .1);
+      minute = ltb-true _ _ (d .1);
+      second = eqb-true _ _ (e .1);
+      synchronised = not-true _ (f .1);
+      verified = not-true _ (g .1);
+      marks = ltb-true _ _ (i .1);
+      leap = not-true _ (j .1);
+    }
+
+-- ---- marks that are all sure
+append-sure : (x y : List ℕ) → allSure (x ++ y) ≡ (allSure x && allSure y)
+unfolding allSure
+append-sure [] y = refl
+append-sure (b ∷ x) y = rw (append-sure x y) (sym (and-assoc (ltb b 2) (allSure x) (allSure y)))
+
+bit-small : (n : ℕ) → ltb (n % 2) 2 ≡ true
+bit-small n = lt-ltb (n % 2) 2 (omega arith)
+
+bits-sure : (k n : ℕ) → allSure (bits k n) ≡ true
+unfolding allSure bits
+bits-sure zero n = refl
+bits-sure (suc k) n = simp (bit-small, bits-sure k (n / 2))
+
+mark-small : (b : Bool) → ltb (mark b) 2 ≡ true
+mark-small true = refl
+mark-small false = refl
+
+first-sure : (a : MinuteTime) → allSure (firstMarks a) ≡ true
+unfolding firstMarks allSure
+first-sure a = simp (append-sure, bits-sure, mark-small, bit-small)
+
+text-sure : (a : MinuteTime) → allSure (minuteText a) ≡ true
+unfolding minuteText allSure
+text-sure a = simp (append-sure, first-sure) (last (a .detail .sixty))
+  where
+    last : (t : Bool) → allSure (cond t (0 ∷ []) []) ≡ true
+    last true = refl
+    last false = refl
+
+mark-flag : (b : Bool) → eqb (mark b) 1 ≡ b
+mark-flag true = refl
+mark-flag false = refl
+
+marks-differ : (b : Bool) → mark b ≡ mark (not b) → ⊥
+marks-differ true h = omega arith
+marks-differ false h = omega arith
+
+module _ (a : MinuteTime) (w : Fits a) where
+  -- ---- the numbers in the run
+  minute-digit : binary 4 21 (minuteText a) ≡ a .time .minute % 10
+  unfolding minuteText firstMarks bits binary
+  minute-digit = binary-bits 4 (a .time .minute % 10) (omega arith)
+
+  hour-digit : binary 4 29 (minuteText a) ≡ a .time .hour % 10
+  unfolding minuteText firstMarks bits binary
+  hour-digit = binary-bits 4 (a .time .hour % 10) (omega arith)
+
+  day-digit : binary 4 36 (minuteText a) ≡ a .time .day % 10
+  unfolding minuteText firstMarks bits binary
+  day-digit = binary-bits 4 (a .time .day % 10) (omega arith)
+
+  month-digit : binary 4 45 (minuteText a) ≡ a .time .month % 10
+  unfolding minuteText firstMarks bits binary
+  month-digit = binary-bits 4 (a .time .month % 10) (omega arith)
+
+  year-digit : binary 4 50 (minuteText a) ≡ a .time .year % 10
+  unfolding minuteText firstMarks bits binary
+  year-digit = binary-bits 4 (a .time .year % 10) (omega arith)
+
+  decade-digit : binary 4 54 (minuteText a) ≡ a .time .year / 10 % 10
+  unfolding minuteText firstMarks bits binary
+  decade-digit = binary-bits 4 (a .time .year / 10 % 10) (omega arith)
+
+  date : Known (a .time .year) (a .time .month) (a .time .day)
+  date = known _ _ _ (w .known-date)
+
+  minute-tens : binary 3 25 (minuteText a) ≡ a .time .minute / 10
+  unfolding minuteText firstMarks bits binary
+  minute-tens = binary-bits 3 (a .time .minute / 10) (omega (arith, w .minute))
+
+  hour-tens : binary 2 33 (minuteText a) ≡ a .time .hour / 10
+  unfolding minuteText firstMarks bits binary
+  hour-tens = binary-bits 2 (a .time .hour / 10) (omega (arith, w .hour))
+
+  day-tens : binary 2 40 (minuteText a) ≡ a .time .day / 10
+  unfolding minuteText firstMarks bits binary
+  day-tens = binary-bits 2 (a .time .day / 10) (omega (arith, date .small))
+
+  month-tens : binary 1 49 (minuteText a) ≡ a .time .month / 10
+  unfolding minuteText firstMarks bits binary
+  month-tens = binary-bits 1 (a .time .month / 10) (omega (arith, date .month))
+
+  weekday-back : binary 3 42 (minuteText a) ≡ a .time .weekday
+  unfolding minuteText firstMarks bits binary
+  weekday-back = binary-bits 3 (a .time .weekday) (omega (arith, w .sunday))
+
+  marks-back : binary 14 1 (minuteText a) ≡ a .detail .marks
+  unfolding minuteText firstMarks bits binary
+  marks-back = binary-bits 14 (a .detail .marks) (w .marks)
+
+  -- ---- the fields
+  minute-back : twoDigits 21 3 (minuteText a) ≡ a .time .minute
+  minute-back = two-digits (minuteText a) 21 3 (a .time .minute) minute-digit minute-tens
+
+  hour-back : twoDigits 29 2 (minuteText a) ≡ a .time .hour
+  hour-back = two-digits (minuteText a) 29 2 (a .time .hour) hour-digit hour-tens
+
+  day-back : twoDigits 36 2 (minuteText a) ≡ a .time .day
+  day-back = two-digits (minuteText a) 36 2 (a .time .day) day-digit day-tens
+
+  month-back : twoDigits 45 1 (minuteText a) ≡ a .time .month
+  month-back = two-digits (minuteText a) 45 1 (a .time .month) month-digit month-tens
+
+  year-back : fullYear (twoDigits 50 4 (minuteText a)) ≡ a .time .year
+  unfolding twoDigits fullYear
+  year-back = rw (year-digit, decade-digit) (omega (arith, date .first, date .last))
+
+  flags-back : (long 15 (minuteText a) ≡ a .time .«alternate_antenna»)
+      × (long 16 (minuteText a) ≡ a .time .«dst_change_announced»)
+      × (long 17 (minuteText a) ≡ a .time .«summer_time»)
+      × (long 19 (minuteText a) ≡ a .time .«leap_second_announced»)
+  unfolding minuteText firstMarks bits
+  flags-back = (mark-flag _, mark-flag _, mark-flag _, mark-flag _)
+
+  length-back : eqb (length (minuteText a)) 60 ≡ a .detail .sixty
+  unfolding minuteText firstMarks bits
+  length-back = go (a .detail .sixty)
+    where
+      go : (t : Bool) → eqb (length (firstMarks a ++ cond t (0 ∷ []) [])) 60 ≡ t
+      go true = refl
+      go false = refl
+
+  pub fields-back : minuteFields (minuteText a) ≡ a
+  unfolding minuteFields announced
+  fields-back =
+      let zone = ap (λ (s : Bool). cond s (pos 120) (pos 60)) (flags-back .2) ∙ sym (w .zone) in
+      λ i.
+      record {
+        time =
+            record {
+              year = year-back i;
+              month = month-back i;
+              day = day-back i;
+              weekday = weekday-back i;
+              hour = hour-back i;
+              minute = minute-back i;
+              second = sym (w .second) i;
+              «utc_offset» = zone i;
+              unsynchronised = sym (w .synchronised) i;
+              unverified = sym (w .verified) i;
+              «summer_time» = flags-back .2 i;
+              «dst_change_announced» = flags-back .1 i;
+              «leap_second_announced» = flags-back .3 i;
+              «alternate_antenna» = flags-back .0 i;
+            };
+        detail = record { marks = marks-back i; sixty = length-back i };
+      }
+
+  -- ---- the rules
+  text-long : (length (minuteText a) ≡ 59) ⊎ (length (minuteText a) ≡ 60)
+  unfolding minuteText firstMarks bits
+  text-long = go (a .detail .sixty)
+    where
+      go : (t : Bool) → (length (firstMarks a ++ cond t (0 ∷ []) []) ≡ 59)
+          ⊎ (length (firstMarks a ++ cond t (0 ∷ []) []) ≡ 60)
+      go true = inr refl
+      go false = inl refl
+
+  date-exists : let t = announced (minuteText a) in dateExists (t .year) (t .month) (t .day) ≡ true
+  unfolding announced knownDate
+  date-exists =
+      let t = a .time in
+      let years = leb 1970 (t .year) && leb (t .year) 2069 in
+      let k = both years (dateExists (t .year) (t .month) (t .day)) (w .known-date) in
+      rw (year-back, month-back, day-back) (k .1)
+
+  time-exists : let t = announced (minuteText a) in
+      timeExists (t .hour) (t .minute) (t .second) (t .«utc_offset») ≡ true
+  unfolding announced timeExists
+  time-exists = simp (hour-back, minute-back, lt-ltb _ _ (w .hour), lt-ltb _ _ (w .minute))
+
+  leap-holds : length (minuteText a) ≡ 60
+      → (getD (minuteText a) 19 0 ≡ 1) × (getD (minuteText a) 59 0 ≡ 0) × (announced (minuteText a) .minute ≡ 0)
+  unfolding minuteText firstMarks bits announced
+  leap-holds e = go (a .detail .sixty) e (w .leap)
+    where
+      go : (t : Bool) → length (firstMarks a ++ cond t (0 ∷ []) []) ≡ 60
+          → (t && not (a .time .«leap_second_announced» && eqb (a .time .minute) 0)) ≡ false
+          → (mark (a .time .«leap_second_announced») ≡ 1) × (getD (firstMarks a ++ cond t (0 ∷ []) []) 59 0 ≡ 0)
+          × (twoDigits 21 3 (minuteText a) ≡ 0)
+      go true e h =
+          let both-hold = both (a .time .«leap_second_announced») _ (not-false _ h) in
+          (ap mark (both-hold .0), refl, minute-back ∙ eqb-true _ _ (both-hold .1))
+      go false e h = absurd (omega arith)
+
+  opened : (getD (minuteText a) 0 0 ≡ 0) × (getD (minuteText a) 20 0 ≡ 1)
+      × (getD (minuteText a) 17 0 ≡ getD (minuteText a) 18 0 → ⊥)
+  unfolding minuteText firstMarks bits
+  opened = (refl, refl, marks-differ (a .time .«summer_time»))
+
+  parity-minute : getD (minuteText a) (21 + 7) 0 ≡ sum (marksFrom 7 21 (minuteText a)) % 2
+  unfolding minuteText firstMarks bits marksFrom
+  parity-minute = refl
+
+  parity-hour : getD (minuteText a) (29 + 6) 0 ≡ sum (marksFrom 6 29 (minuteText a)) % 2
+  unfolding minuteText firstMarks bits marksFrom
+  parity-hour = refl
+
+  parity-date : getD (minuteText a) (36 + 22) 0 ≡ sum (marksFrom 22 36 (minuteText a)) % 2
+  unfolding minuteText firstMarks bits marksFrom
+  parity-date = refl
+
+  weekday-fits : (1 ≤ announced (minuteText a) .weekday) × (announced (minuteText a) .weekday ≤ 7)
+  unfolding announced
+  weekday-fits = (omega (arith, weekday-back, w .monday), omega (arith, weekday-back, w .sunday))
+
+  pub text-accepted : AcceptsMinute (minuteText a)
+  text-accepted =
+      record {
+        long = text-long;
+        sure = sure-small (minuteText a) (text-sure a);
+        first = opened .0;
+        start = opened .1;
+        zone = opened .2;
+        minuteParity = parity-even (minuteText a) 7 21 parity-minute;
+        hourParity = parity-even (minuteText a) 6 29 parity-hour;
+        dateParity = parity-even (minuteText a) 22 36 parity-date;
+        minuteDigit = omega (arith, minute-digit);
+        hourDigit = omega (arith, hour-digit);
+        dayDigit = omega (arith, day-digit);
+        monthDigit = omega (arith, month-digit);
+        yearDigit = omega (arith, year-digit);
+        decadeDigit = omega (arith, decade-digit);
+        monday = weekday-fits .0;
+        sunday = weekday-fits .1;
+        date = date-exists;
+        time = time-exists;
+        leap = leap-holds;
+      }

@@ -1,21 +1,21 @@
--- The first check of a minute, that of its length, and the last ones, as tests of the time that was read. Assumes
--- nothing.
-use Prim.Native.Nat.{ℕ, _≤_}
+-- The checks of a minute: that of its length, and the others by parts, as the code goes through them. Assumes nothing.
+use Prim.Native.Nat.{ℕ, suc, _≤_}
 use native.Mathlib.Omega.{arith}
-use mathlib.Core.Path.{_≡_, refl}
+use mathlib.Core.Path.{_≡_, refl, _∙_}
 use mathlib.Core.Logic.{_⊎_, inl, inr, ⊎-elim}
-use mathlib.Core.Bool.{Bool, true, false, not, _&&_, _||_}
-use mathlib.Core.List.{List, [], _∷_}
-use lib.Dec.{leb, eqb}
-use lib.ListN.{length, drop}
-use borrow.Author.Tests.{not-false, eqb-true}
-use Rattle.clock_time.specs.Errors.{Check, given, checked}
-use Rattle.clock_time.specs.declared.ClockTime.{ClockTime}
-use Rattle.calendar.specs.Date.{dateExists}
+use mathlib.Core.Bool.{Bool, true, false, cond, not, _&&_, _||_, and-true}
+use mathlib.Core.List.{List, [], _∷_, _++_}
+use lib.Dec.{leb, ltb, eqb}
+use lib.IntN.{ℤ}
+use lib.ListN.{length}
+use borrow.Author.Tests.{not-false, eqb-true, leb-true}
+use Rattle.clock_time.specs.Errors.{Check, accepted, refused, checked}
+use Rattle.clock_time.proofs.Tests.{both}
 use Rattle.calendar.specs.TimeOfDay.{timeExists}
-use Rattle.dcf77.specs.Marks.{long, short}
-use Rattle.dcf77.specs.Minute.{minuteFields, minuteChecks}
+use Rattle.dcf77.specs.Minute.{announced, minuteFields, minuteChecks, readMinute}
+use Rattle.dcf77.specs.Numbers.{Numbers, firstNumber, startChecks, numberChecks, dateChecks, timeChecks}
 use Rattle.dcf77.specs.declared.MinuteTime.{MinuteTime}
+use Rattle.dcf77.proofs.NumberLaws.{minute-odd, hour-odd, date-odd, digits-fit}
 
 pub two-lengths : (n : ℕ) → (eqb n 59 || eqb n 60) ≡ true → (n ≡ 59) ⊎ (n ≡ 60)
 two-lengths n h = go (eqb n 59) refl h
@@ -24,21 +24,113 @@ two-lengths n h = go (eqb n 59) refl h
     go true e h = inl (eqb-true _ _ e)
     go false e h = inr (eqb-true _ _ h)
 
-pub long-enough : (n : ℕ) → not (eqb n 59 || eqb n 60) ≡ false → 59 ≤ n
-long-enough n h = ⊎-elim (λ e. omega arith) (λ e. omega arith) (two-lengths n (not-false _ h))
+pub length-between : (n : ℕ) → not (eqb n 59 || eqb n 60) ≡ false → (59 ≤ n) × (n ≤ 60)
+length-between n h =
+    ⊎-elim (λ e. (omega arith, omega arith)) (λ e. (omega arith, omega arith)) (two-lengths n (not-false _ h))
 
 pub length-known : (n : ℕ) → (n ≡ 59) ⊎ (n ≡ 60) → (eqb n 59 || eqb n 60) ≡ true
 length-known n h = ⊎-elim (λ e. rw e) (λ e. rw e) h
 
-abbrev pub timeChecks : List ℕ → ClockTime → List Check
-timeChecks m t =
-    given 7 (not (leb 1 (t .weekday) && leb (t .weekday) 7))
-    ∷ given 5 (not (dateExists (t .year) (t .month) (t .day)))
-    ∷ given 6 (not (timeExists (t .hour) (t .minute) (t .second) (t .«utc_offset»)))
-    ∷ given 19 (eqb (length m) 60 && not (long 19 m && short 59 m && eqb (t .minute) 0))
-    ∷ []
+-- ---- the checks by parts
+-- each number is one of 5 to 19
+abbrev within : List Check → Bool
+within [] = true
+within (k ∷ ks) = leb 5 (k .number) && leb (k .number) 19 && within ks
 
-pub time-checks : (m : List ℕ) (a : MinuteTime) → a ≡ minuteFields m
-    → checked (drop 8 (minuteChecks m)) (minuteFields m) ≡ checked (timeChecks m (a .time)) a
-unfolding minuteChecks minuteFields
-time-checks m a h = rw h
+module _ (more : List Check) (a : MinuteTime) where
+  stops : (ks : List Check) (e : ℕ) → e ≡ firstNumber ks → (e ≡ 0 → ⊥) → checked (ks ++ more) a ≡ refused e
+  unfolding firstNumber
+  stops [] e f n = absurd (n f)
+  stops (k ∷ ks) e f n = go (k .fails) f (λ g. stops ks e g n)
+    where
+      go : (t : Bool) → e ≡ cond t (k .number) (firstNumber ks)
+          → (e ≡ firstNumber ks → checked (ks ++ more) a ≡ refused e)
+          → cond t (refused (k .number)) (checked (ks ++ more) a) ≡ refused e
+      go true f later = rw f
+      go false f later = later f
+
+  goes-on : (ks : List Check) (e : ℕ) → e ≡ firstNumber ks → e ≡ 0 → within ks ≡ true
+      → checked (ks ++ more) a ≡ checked more a
+  unfolding firstNumber
+  goes-on [] e f z w = refl
+  goes-on (k ∷ ks) e f z w =
+      let last = both (leb 5 (k .number) && leb (k .number) 19) (within ks) w in
+      let least = leb-true 5 (k .number) (both (leb 5 (k .number)) (leb (k .number) 19) (last .0) .0) in
+      go (k .fails) f least (λ g. goes-on ks e g z (last .1))
+    where
+      go : (t : Bool) → e ≡ cond t (k .number) (firstNumber ks) → 5 ≤ k .number
+          → (e ≡ firstNumber ks → checked (ks ++ more) a ≡ checked more a)
+          → cond t (refused (k .number)) (checked (ks ++ more) a) ≡ checked more a
+      go true f least later = absurd (omega arith)
+      go false f least later = later f
+
+pub number-known : (ks : List Check) (e : ℕ) → e ≡ firstNumber ks → (e ≡ 0 → ⊥) → within ks ≡ true
+    → (5 ≤ e) × (e ≤ 19)
+unfolding firstNumber
+number-known [] e f n w = absurd (n f)
+number-known (k ∷ ks) e f n w =
+    let last = both (leb 5 (k .number) && leb (k .number) 19) (within ks) w in
+    let u = both (leb 5 (k .number)) (leb (k .number) 19) (last .0) in
+    go (k .fails) f (leb-true _ _ (u .0)) (leb-true _ _ (u .1)) (λ g. number-known ks e g n (last .1))
+  where
+    go : (t : Bool) → e ≡ cond t (k .number) (firstNumber ks) → 5 ≤ k .number → k .number ≤ 19
+        → (e ≡ firstNumber ks → (5 ≤ e) × (e ≤ 19)) → (5 ≤ e) × (e ≤ 19)
+    go true f l u later = (omega arith, omega arith)
+    go false f l u later = later f
+
+-- the checks of the date and of the time, on the fields that were read
+abbrev pub fieldChecks : List ℕ → MinuteTime → List Check
+fieldChecks m a =
+    let t = a .time in
+    dateChecks (t .weekday) (t .year) (t .month) (t .day) ++ timeChecks m (t .hour) (t .minute)
+
+no-second : (hour minute : ℕ) (offset : ℤ) → timeExists hour minute 0 offset ≡ (ltb hour 24 && ltb minute 60)
+unfolding timeExists
+no-second hour minute offset = and-true (ltb hour 24 && ltb minute 60)
+
+run-checks : {m : List ℕ} {n h d : ℕ} → Numbers m n h d → not (eqb (length m) 59 || eqb (length m) 60) ≡ false
+    → readMinute m
+    ≡ checked ((startChecks m ++ numberChecks n h d) ++ fieldChecks m (minuteFields m)) (minuteFields m)
+unfolding readMinute minuteChecks minuteFields announced
+run-checks {m} {n} {h} {d} k long =
+    simp (
+      long,
+      k .run .sure,
+      minute-odd k,
+      hour-odd k,
+      date-odd k,
+      digits-fit k,
+      no-second,
+    )
+
+module _ {m : List ℕ} {n h d : ℕ} (k : Numbers m n h d) (long : not (eqb (length m) 59 || eqb (length m) 60) ≡ false)
+    (e : ℕ) (f : e ≡ firstNumber (startChecks m ++ numberChecks n h d))
+  where
+    pub marks-stop : (e ≡ 0 → ⊥) → readMinute m ≡ refused e
+    marks-stop wrong = run-checks k long ∙ stops (fieldChecks m (minuteFields m)) (minuteFields m) _ e f wrong
+
+    pub marks-pass : e ≡ 0 → (a : MinuteTime) → a ≡ minuteFields m → readMinute m ≡ checked (fieldChecks m a) a
+    marks-pass right a same =
+        rw same (run-checks k long ∙ goes-on (fieldChecks m (minuteFields m)) (minuteFields m) _ e f right refl)
+
+module _ (m : List ℕ) (a : MinuteTime) (read : readMinute m ≡ checked (fieldChecks m a) a) (e : ℕ)
+    (f : e ≡ firstNumber (dateChecks (a .time .weekday) (a .time .year) (a .time .month) (a .time .day)))
+  where
+    pub date-stop : (e ≡ 0 → ⊥) → readMinute m ≡ refused e
+    date-stop wrong = read ∙ stops (timeChecks m (a .time .hour) (a .time .minute)) a _ e f wrong
+
+    pub date-pass : e ≡ 0 → readMinute m ≡ checked (timeChecks m (a .time .hour) (a .time .minute)) a
+    date-pass right = read ∙ goes-on (timeChecks m (a .time .hour) (a .time .minute)) a _ e f right refl
+
+module _ (m : List ℕ) (a : MinuteTime)
+    (read : readMinute m ≡ checked (timeChecks m (a .time .hour) (a .time .minute)) a) (e : ℕ)
+    (f : e ≡ firstNumber (timeChecks m (a .time .hour) (a .time .minute)))
+  where
+    pub time-stop : (e ≡ 0 → ⊥) → readMinute m ≡ refused e
+    time-stop wrong = read ∙ stops [] a _ e f wrong
+
+    pub time-pass : e ≡ 0 → readMinute m ≡ accepted a
+    time-pass right = read ∙ goes-on [] a _ e f right refl
+
+pub above : (k n : ℕ) → (n ≡ k → ⊥) → k ≤ n → suc k ≤ n
+above k n differ least = omega arith

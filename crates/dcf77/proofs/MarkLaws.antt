@@ -1,43 +1,23 @@
 -- Laws of marks as numbers, over any number of marks. Assumes nothing.
-use Prim.Native.Nat.{ℕ, zero, suc, _+_, _*_, _/_, _%_, _^_, _≤_, _<_}
-use native.Mathlib.Nat.{add-zero, zero-add, add-suc, suc-add, add-comm, mul-comm, mul-assoc, pow-suc, pow-succ'}
-use native.Mathlib.Decide.{decLt}
+use Prim.Native.Nat.{ℕ, zero, suc, _+_, _-_, _*_, _/_, _%_, _^_, _≤_, _<_}
+use native.Mathlib.Nat.{add-zero, zero-add, add-suc, suc-add, add-comm, mul-comm, mul-assoc, mod-eq-of-lt, pow-suc, pow-succ'}
+use native.Mathlib.Decide.{decLt, ℕ-discrete}
 use native.Mathlib.Numerals.{add-one}
 use native.Mathlib.Omega.{arith}
-use mathlib.Core.Path.{_≡_, refl, sym, _∙_}
-use mathlib.Core.Bool.{true, _&&_, and-assoc}
+use mathlib.Core.Path.{_≡_, refl, sym, ap, _∙_}
+use mathlib.Core.Bool.{Bool, true, false, _&&_, and-assoc}
 use mathlib.Core.List.{List, [], _∷_}
-use lib.Dec.{ltb}
-use lib.ListN.{length, getD, drop}
-use lib.Seq.{drop-cons}
-use lib.Bits.{bitOr, or-lt, or-comm, or-add-and, and-le-r}
+use lib.Dec.{ltb, eqb, lit<}
+use lib.ListN.{length, getD, List·getD-eq-default}
+use lib.Bits.{bitAnd, and-block, and-high, and-zero-l}
 use lib.Count.{ones, ones-step}
 use lib.Arith.{digits-div, digits-mod}
-use borrow.Author.Tests.{ltb-true, lt-ltb, le-ltb}
+use borrow.Author.Tests.{ltb-true, lt-ltb, le-ltb, eq-eqb, ne-eqb}
 use Rattle.clock_time.proofs.Tests.{both}
 use Rattle.dcf77.specs.Marks.{allSure, binary, longs}
+use Rattle.dcf77.specs.Numbers.{sureFrom, fourBytes}
 
 -- ---- sure marks
-or-above : (a b : ℕ) → a ≤ bitOr a b
-or-above a b = omega (arith, or-add-and a b, and-le-r a b)
-
--- marks are all sure if no bit but the lowest is set in any of them
-pub or-sure : (a b : ℕ) → ltb (bitOr a b) 2 ≡ (ltb a 2 && ltb b 2)
-or-sure a b = elim (decLt a 2) [
-  | yes p ↦ elim (decLt b 2) [
-    | yes q ↦ simp (lt-ltb _ _ (or-lt 1 a b p q), lt-ltb _ _ p, lt-ltb _ _ q)
-    | no q ↦
-        let h : 2 ≤ bitOr a b = omega (arith, or-above b a, or-comm a b) in
-        simp (le-ltb _ _ h, lt-ltb _ _ p, le-ltb b 2 (omega arith))
-  ]
-  | no p ↦ simp (le-ltb (bitOr a b) 2 (omega (arith, or-above a b)), le-ltb a 2 (omega arith))
-]
-
-pub sure-step : (m : List ℕ) (seen i : ℕ) → i < length m
-    → (ltb seen 2 && allSure (drop i m)) ≡ (ltb (bitOr seen (getD m i 0)) 2 && allSure (drop (i + 1) m))
-unfolding allSure
-sure-step m seen i h = rw (drop-cons m i 0 h, or-sure, add-one) (sym (and-assoc (ltb seen 2) (ltb (getD m i 0) 2) _))
-
 pub sure-small : (m : List ℕ) → allSure m ≡ true → (k : ℕ) → getD m k 0 ≤ 1
 unfolding allSure
 sure-small [] h k = omega arith
@@ -51,6 +31,126 @@ small-sure (b ∷ m) h =
     let first : b ≤ 1 = h 0 in
     simp (lt-ltb b 2 (omega arith), small-sure m (λ k. h (suc k)))
 
+-- eight bytes as one number, in which no bit but the lowest of each byte is set where they are sure
+abbrev word : ℕ → ℕ → List ℕ → ℕ
+word zero at m = 0
+word (suc k) at m = word k (suc at) m * 256 + getD m at 0
+
+abbrev highs : ℕ → ℕ
+highs zero = 0
+highs (suc k) = highs k * 256 + 254
+
+zero-sum : (x r : ℕ) → eqb (x * 256 + r) 0 ≡ (eqb r 0 && eqb x 0)
+zero-sum x r = elim (ℕ-discrete r 0) [
+  | yes e ↦ elim (ℕ-discrete x 0) [
+    | yes f ↦ simp (eq-eqb r 0 e, eq-eqb x 0 f, eq-eqb (x * 256 + r) 0 (omega arith))
+    | no f ↦ simp (eq-eqb r 0 e, ne-eqb x 0 f, ne-eqb (x * 256 + r) 0 (λ z. f (omega arith)))
+  ]
+  | no e ↦ simp (ne-eqb r 0 e, ne-eqb (x * 256 + r) 0 (λ z. e (omega arith)))
+]
+
+sure-byte : (b : ℕ) → b < 256 → eqb (bitAnd b 254) 0 ≡ ltb b 2
+sure-byte b h = elim (decLt b 2) [
+  | yes l ↦ let e : bitAnd b 254 ≡ 0 = and-high b 7 1 ∙ omega arith in
+      simp (eq-eqb (bitAnd b 254) 0 e, lt-ltb b 2 l)
+  | no l ↦
+      let half : b / 2 % 128 ≡ b / 2 = mod-eq-of-lt (omega arith) in
+      let e : bitAnd b 254 ≡ 0 → ⊥ = λ z.
+      let zero : b / 2 % 128 * 2 ≡ 0 = sym (and-high b 7 1) ∙ z in
+      omega arith in
+      simp (ne-eqb (bitAnd b 254) 0 e, le-ltb b 2 (omega arith))
+]
+
+module _ (m : List ℕ) (bytes : (i : ℕ) → getD m i 0 < 256) where
+  sure-word : (k at : ℕ) → eqb (bitAnd (word k at m) (highs k)) 0 ≡ sureFrom k at m
+  unfolding sureFrom
+  sure-word zero at = ap (λ (n : ℕ). eqb n 0) (and-zero-l 0)
+  sure-word (suc k) at =
+      rw (and-block 8 (word k (suc at) m) (highs k) (getD m at 0) 254 (bytes at) (lit< tt))
+      (zero-sum (bitAnd (word k (suc at) m) (highs k)) (bitAnd (getD m at 0) 254)
+      ∙ rw (sure-byte (getD m at 0) (bytes at), sure-word k (suc at)))
+
+  pub eight-sure : (at n : ℕ)
+      → n ≡ ((((((getD m (at + 7) 0 * 256 + getD m (at + 6) 0) * 256 + getD m (at + 5) 0) * 256
+      + getD m (at + 4) 0) * 256 + getD m (at + 3) 0) * 256 + getD m (at + 2) 0) * 256 + getD m (at + 1) 0) * 256
+      + getD m at 0
+      → eqb (bitAnd n 18374403900871474942) 0 ≡ sureFrom 8 at m
+  eight-sure at n e =
+      let one : at + 1 ≡ suc at = omega arith in
+      let two : at + 2 ≡ suc (suc at) = omega arith in
+      let three : at + 3 ≡ suc (suc (suc at)) = omega arith in
+      let four : at + 4 ≡ suc (suc (suc (suc at))) = omega arith in
+      let five : at + 5 ≡ suc (suc (suc (suc (suc at)))) = omega arith in
+      let six : at + 6 ≡ suc (suc (suc (suc (suc (suc at))))) = omega arith in
+      let seven : at + 7 ≡ suc (suc (suc (suc (suc (suc (suc at)))))) = omega arith in
+      let same : n ≡ word 8 at m = e ∙ rw (one, two, three, four, five, six, seven) (omega arith) in
+      rw same (sure-word 8 at)
+
+-- ---- a run of which all parts are sure
+from-join : (m : List ℕ) (j k at : ℕ) → (sureFrom j at m && sureFrom k (j + at) m) ≡ sureFrom (j + k) at m
+unfolding sureFrom
+from-join m zero k at = rw (zero-add at, zero-add k)
+from-join m (suc j) k at =
+    rw (suc-add j at, ← (add-suc j at), suc-add j k)
+    (and-assoc (ltb (getD m at 0) 2) (sureFrom j (suc at) m) (sureFrom k (j + suc at) m)
+    ∙ rw (from-join m j k (suc at)))
+
+from-small : (m : List ℕ) (k at : ℕ) → sureFrom k at m ≡ true → (i : ℕ) → at ≤ i → i < at + k → getD m i 0 ≤ 1
+unfolding sureFrom
+from-small m zero at h i l u = absurd (omega arith)
+from-small m (suc k) at h i l u =
+    let w = both (ltb (getD m at 0) 2) (sureFrom k (suc at) m) h in
+    elim (ℕ-discrete i at) [
+      | yes e ↦ rw e (omega (arith, ltb-true (getD m at 0) 2 (w .0)))
+      | no e ↦ from-small m k (suc at) (w .1) i (omega arith) (omega arith)
+    ]
+
+small-from : (m : List ℕ) → ((i : ℕ) → getD m i 0 ≤ 1) → (k at : ℕ) → sureFrom k at m ≡ true
+unfolding sureFrom
+small-from m h zero at = refl
+small-from m h (suc k) at = simp (lt-ltb (getD m at 0) 2 (omega (arith, h at)), small-from m h k (suc at))
+
+-- two tests are the same if each passes where the other does
+pub same-test : (t u : Bool) → (t ≡ true → u ≡ true) → (u ≡ true → t ≡ true) → t ≡ u
+same-test true u f g = sym (f refl)
+same-test false true f g = g refl
+same-test false false f g = refl
+
+module _ (m : List ℕ) (long : 59 ≤ length m) (most : length m ≤ 60) where
+  ends-sure : (sureFrom 56 0 m && sureFrom 8 (length m - 8) m) ≡ allSure m
+  ends-sure = same-test _ _ all ends
+    where
+      all : (sureFrom 56 0 m && sureFrom 8 (length m - 8) m) ≡ true → allSure m ≡ true
+      all h =
+          let w = both (sureFrom 56 0 m) (sureFrom 8 (length m - 8) m) h in
+          small-sure m
+          (λ k.
+          elim (decLt k 56) [
+            | yes l ↦ from-small m 56 0 (w .0) k (omega arith) (omega arith)
+            | no l ↦ elim (decLt k (length m)) [
+              | yes u ↦ from-small m 8 (length m - 8) (w .1) k (omega arith) (omega arith)
+              | no u ↦ omega (arith, List·getD-eq-default m 0 {n = k} (omega arith))
+            ]
+          ])
+
+      ends : allSure m ≡ true → (sureFrom 56 0 m && sureFrom 8 (length m - 8) m) ≡ true
+      ends h =
+          let small = small-from m (sure-small m h) in
+          simp (small 56 0, small 8 (length m - 8))
+
+  pub words-sure : (sureFrom 8 0 m && sureFrom 8 8 m && sureFrom 8 16 m && sureFrom 8 24 m && sureFrom 8 32 m
+      && sureFrom 8 40 m && sureFrom 8 48 m && sureFrom 8 (length m - 8) m) ≡ allSure m
+  words-sure =
+      rw (
+        from-join m 8 8 0,
+        from-join m 16 8 0,
+        from-join m 24 8 0,
+        from-join m 32 8 0,
+        from-join m 40 8 0,
+        from-join m 48 8 0,
+      )
+      ends-sure
+
 -- ---- numbers of marks
 -- a number of marks is that of the first ones and that of the rest
 pub binary-split : (m : List ℕ) (j n at : ℕ) → binary (j + n) at m ≡ binary j at m + 2 ^ j * binary n (at + j) m
@@ -59,7 +159,7 @@ binary-split m zero n at = rw (zero-add, add-zero) (omega arith)
 binary-split m (suc j) n at =
     rw (suc-add, add-suc, ← suc-add, binary-split m j n (suc at), pow-succ', mul-assoc) (omega arith)
 
-pub binary-four : (m : List ℕ) (at : ℕ)
+binary-four : (m : List ℕ) (at : ℕ)
     → binary 4 at m ≡ getD m at 0 + 2 * (getD m (at + 1) 0 + 2 * (getD m (at + 2) 0 + 2 * getD m (at + 3) 0))
 unfolding binary
 binary-four m at =
@@ -100,12 +200,21 @@ module _ (m : List ℕ) (sure : allSure m ≡ true) where
       let h : b < 2 = omega (arith, sure-small m sure at) in
       ones-step (b + 2 * n) ∙ rw (low-part n h, high-part n h, ones-binary k (suc at))
 
--- four marks in four bytes, and the product that has them side by side at bit 24
-pub side-by-side : (a b c d : ℕ) → a ≤ 1 → b ≤ 1 → c ≤ 1 → d ≤ 1
-    → (a + 256 * (b + 256 * (c + 256 * d))) * 16909320 / 16777216 % 16 ≡ a + 2 * (b + 2 * (c + 2 * d))
-side-by-side a b c d p q r s =
-    let n = a + 2 * (b + 2 * (c + 2 * d)) in
-    let bytes = a + 256 * (b + 256 * (c + 256 * d)) in
-    let above = 16 * (b + 258 * c + 66052 * d) in
-    let high : bytes * 16909320 / 16777216 ≡ n + 16 * above = omega arith in
+-- eight marks in four bytes, and the product that has them side by side at bit 24
+side-by-side : (a b c d e f g h : ℕ) → a ≤ 1 → b ≤ 1 → c ≤ 1 → d ≤ 1 → e ≤ 1 → f ≤ 1 → g ≤ 1 → h ≤ 1
+    → (a + 256 * (b + 256 * (c + 256 * d)) + 16 * (e + 256 * (f + 256 * (g + 256 * h)))) * 16909320 / 16777216 % 256
+    ≡ a + 2 * (b + 2 * (c + 2 * d)) + 16 * (e + 2 * (f + 2 * (g + 2 * h)))
+side-by-side a b c d e f g h p q r s t u v w =
+    let n = a + 2 * (b + 2 * (c + 2 * d)) + 16 * (e + 2 * (f + 2 * (g + 2 * h))) in
+    let bytes = a + 256 * (b + 256 * (c + 256 * d)) + 16 * (e + 256 * (f + 256 * (g + 256 * h))) in
+    let above = b + 258 * c + 66052 * d + 16 * (f + 258 * g + 66052 * h) in
+    let high : bytes * 16909320 / 16777216 ≡ n + 256 * above = omega arith in
     rw high (omega arith)
+
+pub eight-marks : (m : List ℕ) → allSure m ≡ true → (at : ℕ)
+    → (fourBytes at m + 16 * fourBytes (at + 4) m) * 16909320 / 16777216 % 256 ≡ binary 8 at m
+eight-marks m sure at =
+    let small = sure-small m sure in
+    rw (binary-split m 4 4 at, binary-four m at, binary-four m (at + 4))
+    (side-by-side _ _ _ _ _ _ _ _ (small at) (small (at + 1)) (small (at + 2)) (small (at + 3)) (small (at + 4))
+    (small (at + 4 + 1)) (small (at + 4 + 2)) (small (at + 4 + 3)))

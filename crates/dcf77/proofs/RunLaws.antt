@@ -1,13 +1,15 @@
 -- What an accepted minute's number is made of: its marks as 0 and 1, and a date that has a day number. Assumes nothing.
 use Prim.Native.Nat.{ℕ}
 use mathlib.Core.Path.{_≡_, refl, _∙_}
-use mathlib.Core.Bool.{Bool, true, false}
+use mathlib.Core.Bool.{Bool, true, false, cond}
 use mathlib.Core.List.{List}
+use lib.IntN.{pos}
 use mir.Val.{boolByte}
 use Rattle.clock_time.specs.Errors.{accepted}
+use Rattle.clock_time.specs.Same.{eqℤ}
 use Rattle.calendar.specs.Date.{knownDate}
 use Rattle.calendar.proofs.DateLaws.{known-exists}
-use Rattle.dcf77.specs.Marks.{twoDigits}
+use Rattle.dcf77.specs.Marks.{long, twoDigits}
 use Rattle.dcf77.specs.Minute.{announced, minuteFields, readMinute, mark}
 use Rattle.dcf77.specs.declared.MinuteTime.{MinuteTime}
 use Rattle.dcf77.proofs.AcceptLaws.{read-accepts}
@@ -22,3 +24,13 @@ unfolding minuteFields announced
 accepted-known m a h =
     let r = read-accepts m a h in
     rw (r .1) (known-exists (twoDigits 50 4 m) _ _ ∙ r .0 .date)
+
+zone-summer : (summer : Bool) → eqℤ (cond summer (pos 120) (pos 60)) (pos 120) ≡ summer
+unfolding eqℤ
+zone-summer true = refl
+zone-summer false = refl
+
+pub fields-summer : (m : List ℕ) (a : MinuteTime) → a ≡ minuteFields m
+    → eqℤ (a .time .«utc_offset») (pos 120) ≡ a .time .«summer_time»
+unfolding minuteFields announced
+fields-summer m a h = rw h (zone-summer (long 17 m))

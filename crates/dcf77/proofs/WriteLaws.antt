@@ -18,7 +18,7 @@ use Rattle.dcf77.specs.Minute.{announced, minuteFields, readMinute, minu
 use Rattle.dcf77.specs.Accepts.{AcceptsMinute}
 use Rattle.dcf77.specs.Numbers.{fieldsFit, isWritable}
 use Rattle.dcf77.specs.declared.MinuteTime.{MinuteTime}
-use Rattle.dcf77.proofs.MarkLaws.{small-sure, binary-below}
+use Rattle.dcf77.proofs.MarkLaws.{small-sure, same-test, binary-below}
 use Rattle.dcf77.proofs.AcceptLaws.{leap-passes, read-accepts, accepts-read}
 use Rattle.dcf77.proofs.SameLaws.{sameMinute-refl, sameMinute-true}
 use Rattle.dcf77.proofs.TextLaws.{fits, fields-back, text-accepted}
@@ -76,11 +76,6 @@ writable-back a h =
     let read : readMinute (minuteText a) ≡ accepted a =
     rw (accepts-read (minuteText a) (text-accepted a w), fields-back a w) in
     rw read (sameMinute-refl a)
-
-same-test : (t u : Bool) → (t ≡ true → u ≡ true) → (u ≡ true → t ≡ true) → t ≡ u
-same-test true u f g = sym (f refl)
-same-test false true f g = g refl
-same-test false false f g = refl
 
 pub reads-writable : (a : MinuteTime) → readsBack readMinute minuteText sameMinute a ≡ isWritable a
 reads-writable a = same-test _ _ (back-writable a) (writable-back a)

@@ -1,16 +1,16 @@
 -- What the private functions require and ensure: runs of marks as numbers. Assumes nothing.
-use Prim.Native.Nat.{ℕ, _≤_, _<_, _^_}
+use Prim.Native.Nat.{ℕ, zero, suc, _+_, _*_, _/_, _%_, _≤_, _<_, _^_}
 use mathlib.Core.Path.{_≡_}
 use mathlib.Core.Bool.{Bool, true, cond, not, _&&_}
-use mathlib.Core.List.{List}
+use mathlib.Core.List.{List, [], _∷_}
+use lib.Count.{ones}
 use lib.Dec.{leb, ltb, eqb}
 use lib.IntN.{pos}
-use lib.ListN.{length, drop}
-use Rattle.clock_time.specs.Errors.{Answer, checked}
+use lib.ListN.{length, getD}
+use Rattle.clock_time.specs.Errors.{Check, given}
 use Rattle.clock_time.specs.Same.{eqℤ}
-use Rattle.calendar.specs.Date.{knownDate}
-use Rattle.dcf77.specs.Marks.{allSure, binary, bits}
-use Rattle.dcf77.specs.Minute.{minuteFields, minuteChecks}
+use Rattle.calendar.specs.Date.{dateExists, knownDate}
+use Rattle.dcf77.specs.Marks.{long, short, allSure, binary, bits}
 use Rattle.dcf77.specs.declared.MinuteTime.{MinuteTime}
 
 -- a run that is long enough, of sure marks
@@ -25,9 +25,44 @@ pub record Numbers (m : List ℕ) (n h d : ℕ) : Type 0 where
   pub hour : h ≡ binary 7 29 m
   pub date : d ≡ binary 23 36 m
 
--- what the checks of a run give, without the first ones
-abbrev pub checkedFrom : ℕ → List ℕ → Answer MinuteTime
-checkedFrom n m = checked (drop n (minuteChecks m)) (minuteFields m)
+-- k marks from a place on are short or long
+unfoldable pub sureFrom : ℕ → ℕ → List ℕ → Bool
+sureFrom zero at m = true
+sureFrom (suc k) at m = ltb (getD m at 0) 2 && sureFrom k (suc at) m
+
+-- four bytes from a place on as one number
+abbrev pub fourBytes : ℕ → List ℕ → ℕ
+fourBytes at m = getD m at 0 + 256 * (getD m (at + 1) 0 + 256 * (getD m (at + 2) 0 + 256 * getD m (at + 3) 0))
+
+-- the number of the first check that fails, 0 where none does
+unfoldable pub firstNumber : List Check → ℕ
+firstNumber [] = 0
+firstNumber (k ∷ ks) = cond (k .fails) (k .number) (firstNumber ks)
+
+-- the checks after those of the length and of sure marks, on what the code has in hand
+abbrev pub startChecks : List ℕ → List Check
+startChecks m = given 13 (not (short 0 m && long 20 m)) ∷ given 14 (eqb (getD m 17 0) (getD m 18 0)) ∷ []
+
+abbrev pub numberChecks : ℕ → ℕ → ℕ → List Check
+numberChecks n h d =
+    given 15 (not (eqb (ones n % 2) 0))
+    ∷ given 16 (not (eqb (ones h % 2) 0))
+    ∷ given 17 (not (eqb (ones d % 2) 0))
+    ∷ given 18
+    (not
+    (leb (n % 16) 9 && leb (h % 16) 9 && leb (d % 16) 9 && leb (d / 512 % 16) 9 && leb (d / 16384 % 16) 9
+    && leb (d / 262144 % 16) 9))
+    ∷ []
+
+abbrev pub dateChecks : ℕ → ℕ → ℕ → ℕ → List Check
+dateChecks weekday year month day =
+    given 7 (not (leb 1 weekday && leb weekday 7)) ∷ given 5 (not (dateExists year month day)) ∷ []
+
+abbrev pub timeChecks : List ℕ → ℕ → ℕ → List Check
+timeChecks m hour minute =
+    given 6 (not (ltb hour 24 && ltb minute 60))
+    ∷ given 19 (eqb (length m) 60 && not (long 19 m && short 59 m && eqb minute 0))
+    ∷ []
 
 -- a number whose last k bits are these marks
 pub record Spells (k : ℕ) (m : List ℕ) (n : ℕ) : Type 0 where

@@ -1,21 +1,11 @@
 // The number of an accepted minute.
-use crate::MinuteTime;
 use crate::marks;
 use calendar::date::DateAnswer;
 ghost use mathlib.Core.Path.{_≡_};
 ghost use mathlib.Core.Bool.{true};
 ghost use Prim.Native.Nat.{_+_, _*_, _≤_, _<_};
-ghost use lib.IntN.{pos};
-ghost use Rattle.clock_time.specs.Errors.{accepted};
-ghost use Rattle.clock_time.specs.Same.{eqℤ};
 ghost use Rattle.calendar.specs.Date.{knownDate, daysSinceEpoch};
-ghost use Rattle.dcf77.specs.Minute.{mark, outcomeNumber};
-
-fn is_120(offset: i16) -> bool
-    ensures { λ r. ⌜ r ≡ eqℤ offset (pos 120) ⌝ }
-{
-    offset == 120
-}
+ghost use Rattle.dcf77.specs.Minute.{mark};
 
 // Days from 1 January 1970 to a date that exists.
 fn days_to(year: u16, month: u8, day: u8) -> u32
@@ -37,7 +27,13 @@ fn local_minutes(days: u32, hour: u8, minute: u8) -> u32
 }
 
 // What the length, the offset 120 and the flags add.
-fn flags_number(sixty: bool, summer: bool, antenna: bool, change: bool, leap: bool) -> u32
+pub(crate) fn flags_number(
+    sixty: bool,
+    summer: bool,
+    antenna: bool,
+    change: bool,
+    leap: bool,
+) -> u32
     ensures { λ r. ⌜ (r ≤ 31)
         × (r ≡ 16 * mark sixty + 8 * mark summer + 4 * mark antenna + 2 * mark change + mark leap) ⌝ }
 {
@@ -48,21 +44,10 @@ fn flags_number(sixty: bool, summer: bool, antenna: bool, change: bool, leap: bo
         + marks::bit(leap)
 }
 
-// The number of a minute that was read.
-pub(crate) fn minute_number(a: MinuteTime) -> u32
-    requires { ⌜ knownDate (a .time .year) (a .time .month) (a .time .day) ≡ true ⌝ }
-    ensures { λ r. ⌜ r ≡ outcomeNumber (accepted a) ⌝ }
+// The number of a minute that was read, from its date, its time of day and what the flags add.
+pub(crate) fn minute_number(year: u16, month: u8, day: u8, hour: u8, minute: u8, flags: u32) -> u32
+    requires { ⌜ (knownDate year month day ≡ true) × (flags ≤ 31) ⌝ }
+    ensures { λ r. ⌜ r ≡ 100 + 32 * (1440 * daysSinceEpoch year month day + 60 * hour + minute) + flags ⌝ }
 {
-    let t = a.time;
-    let d = a.detail;
-    let summer = is_120(t.utc_offset);
-    let local = local_minutes(days_to(t.year, t.month, t.day), t.hour, t.minute);
-    let flags = flags_number(
-        d.sixty,
-        summer,
-        t.alternate_antenna,
-        t.dst_change_announced,
-        t.leap_second_announced,
-    );
-    100 + 32 * local + flags
+    100 + 32 * local_minutes(days_to(year, month, day), hour, minute) + flags
 }

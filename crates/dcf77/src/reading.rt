@@ -1,6 +1,5 @@
 // The checks of a minute and its fields. The numbers `minute`, `hour` and `date` are those that the marks 21 to 28, 29
 // to 35 and 36 to 58 stand for, so that mark 45 of the month, say, is the bit of 512 in `date`.
-use crate::MinuteAnswer;
 use crate::MinuteTime;
 use crate::marks;
 use clock_time::ClockTime;
@@ -8,13 +7,16 @@ use clock_time::Error;
 use clock_time::MinuteDetail;
 ghost use mathlib.Core.Path.{_≡_};
 ghost use mathlib.Core.Bool.{cond, not, _&&_};
-ghost use Prim.Native.Nat.{_/_, _%_};
+ghost use mathlib.Core.List.{_++_};
+ghost use Prim.Native.Nat.{_/_, _%_, _≤_};
 ghost use lib.Dec.{leb, eqb};
 ghost use lib.ListN.{length};
 ghost use lib.IntN.{pos};
 ghost use Rattle.dcf77.specs.Marks.{long, short};
-ghost use Rattle.dcf77.specs.Minute.{announced, minuteFields, minuteAnswer};
-ghost use Rattle.dcf77.specs.Numbers.{Sure, Numbers, checkedFrom};
+ghost use Rattle.clock_time.specs.Errors.{errorNumber};
+ghost use Rattle.dcf77.specs.Minute.{announced, minuteFields};
+ghost use Rattle.dcf77.specs.Numbers.{Sure, Numbers, firstNumber, startChecks, numberChecks, dateChecks};
+ghost use Rattle.dcf77.specs.Numbers.{timeChecks};
 
 // The offset of the announced time.
 pub(crate) fn zone_offset(summer: bool) -> i16
@@ -51,7 +53,7 @@ fn announced_time(m: &[u8], minute: u32, hour: u32, date: u32) -> ClockTime
 }
 
 // The announced time, with marks 1 to 14 and the length.
-fn fields(m: &[u8], minute: u32, hour: u32, date: u32) -> MinuteTime
+pub(crate) fn fields(m: &[u8], minute: u32, hour: u32, date: u32) -> MinuteTime
     requires { ⌜ Numbers (now m) minute hour date ⌝ }
     ensures { λ r. ⌜ r ≡ minuteFields (now (m .entry)) ⌝ }
 {
@@ -78,27 +80,6 @@ fn is_leap_fault(m: &[u8], minute: u8) -> bool
     false
 }
 
-// The checks of the time: 7, 5, 6, 19.
-fn check_time(m: &[u8], a: MinuteTime) -> MinuteAnswer
-    requires { ⌜ Sure (now m) × (a ≡ minuteFields (now m)) ⌝ }
-    ensures { λ r. ⌜ minuteAnswer r ≡ checkedFrom 8 (now (m .entry)) ⌝ }
-{
-    let t = a.time;
-    if !((1 <= t.weekday) & (t.weekday <= 7)) {
-        return MinuteAnswer::Refused(Error::Weekday);
-    }
-    if !calendar::date::date_exists(t.year, t.month, t.day) {
-        return MinuteAnswer::Refused(Error::NoSuchDate);
-    }
-    if !calendar::time_of_day::time_exists(t.hour, t.minute, t.second, t.utc_offset) {
-        return MinuteAnswer::Refused(Error::NoSuchTime);
-    }
-    if is_leap_fault(m, t.minute) {
-        return MinuteAnswer::Refused(Error::LeapMinute);
-    }
-    MinuteAnswer::Read(a)
-}
-
 // True where none of the six digits of four marks is above 9.
 fn digits_fit(minute: u32, hour: u32, date: u32) -> bool
     ensures { λ r. ⌜ r ≡ (leb (minute % 16) 9 && leb (hour % 16) 9 && leb (date % 16) 9 && leb (date / 512 % 16) 9
@@ -112,38 +93,86 @@ fn digits_fit(minute: u32, hour: u32, date: u32) -> bool
         & (date / 262144 % 16 <= 9)
 }
 
-// The checks of the numbers, 15 to 18, and after them those of the time.
-fn check_numbers(m: &[u8], minute: u32, hour: u32, date: u32) -> MinuteAnswer
-    requires { ⌜ Numbers (now m) minute hour date ⌝ }
-    ensures { λ r. ⌜ minuteAnswer r ≡ checkedFrom 4 (now (m .entry)) ⌝ }
+// The first of 15 to 18 that the numbers give, else 0.
+fn number_error(minute: u32, hour: u32, date: u32) -> u8
+    ensures { λ r. ⌜ r ≡ firstNumber (numberChecks minute hour date) ⌝ }
 {
     if marks::is_odd(minute) {
-        return MinuteAnswer::Refused(Error::MinuteParity);
+        return 15;
     }
     if marks::is_odd(hour) {
-        return MinuteAnswer::Refused(Error::HourParity);
+        return 16;
     }
     if marks::is_odd(date) {
-        return MinuteAnswer::Refused(Error::DateParity);
+        return 17;
     }
     if !digits_fit(minute, hour, date) {
-        return MinuteAnswer::Refused(Error::DecimalDigit);
+        return 18;
     }
-    check_time(m, fields(m, minute, hour, date))
+    0
 }
 
-// The checks of the start and of the zone, 13 and 14, and after them those of the numbers.
-pub(crate) fn check_marks(m: &[u8]) -> MinuteAnswer
+// The first of 13 to 18 that the marks give, else 0.
+pub(crate) fn marks_error(m: &[u8], minute: u32, hour: u32, date: u32) -> u8
     requires { ⌜ Sure (now m) ⌝ }
-    ensures { λ r. ⌜ minuteAnswer r ≡ checkedFrom 2 (now (m .entry)) ⌝ }
+    ensures { λ r. ⌜ r ≡ firstNumber (startChecks (now (m .entry)) ++ numberChecks minute hour date) ⌝ }
 {
     if !((m[0] == 0) & (m[20] == 1)) {
-        return MinuteAnswer::Refused(Error::StartMark);
+        return 13;
     }
     if m[17] == m[18] {
-        return MinuteAnswer::Refused(Error::ZoneMarks);
+        return 14;
     }
-    let minute = marks::read_eight(m, 21);
-    let hour = marks::read_eight(m, 29) % 128;
-    check_numbers(m, minute, hour, marks::read_date(m))
+    number_error(minute, hour, date)
+}
+
+// The first of 7 and 5 that a date gives, else 0.
+pub(crate) fn date_error(weekday: u8, year: u16, month: u8, day: u8) -> u8
+    ensures { λ r. ⌜ r ≡ firstNumber (dateChecks weekday year month day) ⌝ }
+{
+    if !((1 <= weekday) & (weekday <= 7)) {
+        return 7;
+    }
+    if !calendar::date::date_exists(year, month, day) {
+        return 5;
+    }
+    0
+}
+
+// The first of 6 and 19 that a time of day gives, at second 0, else 0.
+pub(crate) fn time_error(m: &[u8], hour: u8, minute: u8) -> u8
+    requires { ⌜ Sure (now m) ⌝ }
+    ensures { λ r. ⌜ r ≡ firstNumber (timeChecks (now (m .entry)) hour minute) ⌝ }
+{
+    if !((hour < 24) & (minute < 60)) {
+        return 6;
+    }
+    if is_leap_fault(m, minute) {
+        return 19;
+    }
+    0
+}
+
+// The error of a number from 5 to 19.
+pub(crate) fn error_of(number: u8) -> Error
+    requires { ⌜ (5 ≤ number) × (number ≤ 19) ⌝ }
+    ensures { λ r. ⌜ errorNumber r ≡ number ⌝ }
+{
+    match number {
+        5 => Error::NoSuchDate,
+        6 => Error::NoSuchTime,
+        7 => Error::Weekday,
+        8 => Error::UtcOffset,
+        9 => Error::Position,
+        10 => Error::NoEarlierGap,
+        11 => Error::RunLength,
+        12 => Error::UnsureMark,
+        13 => Error::StartMark,
+        14 => Error::ZoneMarks,
+        15 => Error::MinuteParity,
+        16 => Error::HourParity,
+        17 => Error::DateParity,
+        18 => Error::DecimalDigit,
+        _ => Error::LeapMinute,
+    }
 }

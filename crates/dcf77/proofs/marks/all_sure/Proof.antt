@@ -1,40 +1,43 @@
--- `dcf77::marks::all_sure` meets its contract. The invariant: the marks are all sure if no bit but the lowest is seen
--- so far and the rest are sure. Assumes nothing.
-use Prim.Native.Nat.{_-_, _≤_}
+-- `dcf77::marks::all_sure` meets its contract. Assumes nothing.
+use borrow.Author.Needs.{needs}
 use native.Mathlib.Omega.{arith}
-use mathlib.Core.Path.{_≡_, refl, sym, _∙_}
-use mathlib.Core.Bool.{_&&_, and-true}
-use denote.Ref.{now}
-use lib.Dec.{ltb}
-use lib.ListN.{length, drop, drop-of-length-le}
-use Rattle.dcf77.specs.Marks.{allSure}
-use Rattle.dcf77.proofs.MarkLaws.{sure-step}
+use Rattle.dcf77.proofs.MarkLaws.{words-sure}
 use Rattle.dcf77.proofs.marks.all_sure.Statement.{statement}
 use Rattle.dcf77.proofs.marks.all_sure.Tie as tie
 
-abbrev Inv-loop : tie.InvT-loop
-Inv-loop m seen₀ i₀ seen i = (i ≤ length m) × (allSure m ≡ (ltb seen 2 && allSure (drop i m)))
-
-abbrev μ-loop : tie.MeasureT-loop
-μ-loop m seen₀ i₀ seen i = length m - i
-
-loop-holds : tie.Need-loop-holds Inv-loop μ-loop
-loop-holds c = (omega arith, refl)
-
-loop-again : tie.Need-loop-again Inv-loop μ-loop
-loop-again c =
-    let l = c .before .before .loop in
-    let m = now (c .before .before .before .args .m) in
-    (omega arith, l .inv .1 ∙ sure-step m (l .seen) (l .i) (omega arith))
-
-returns : tie.Need-returns Inv-loop μ-loop
-unfolding allSure
+returns : tie.Need-returns
 returns c =
-    let m = now (c .before .before .args .m) in
-    let ended : length m ≤ c .before .loop .i = omega arith in
-    sym (c .before .loop .inv .1 ∙ simp (drop-of-length-le m ended, and-true))
+    let g = c .before in
+    let f = g .before in
+    let e = f .before in
+    let d = e .before in
+    let b3 = d .before in
+    let b2 = b3 .before in
+    let b1 = b2 .before in
+    let s = b1 .before .before in
+    rw (
+      b1 .eight-sure .ensures,
+      b2 .eight-sure2 .ensures,
+      b3 .eight-sure3 .ensures,
+      d .eight-sure4 .ensures,
+      e .eight-sure5 .ensures,
+      f .eight-sure6 .ensures,
+      g .eight-sure7 .ensures,
+      c .eight-sure8 .ensures,
+    )
+    (words-sure _ (s .pre .0) (s .pre .1))
 
 pub all-sure-spec : {M : Type 1} → statement M
 all-sure-spec =
     tie.close
-    (tie.spec Inv-loop μ-loop loop-holds (λ c. omega arith) (λ c. omega arith) (λ c. omega arith) loop-again returns)
+    (tie.spec
+    (λ c κs. search needs)
+    (λ c κs. search needs)
+    (λ c κs. search needs)
+    (λ c κs. search needs)
+    (λ c κs. search needs)
+    (λ c κs. search needs)
+    (λ c κs. search needs)
+    (λ c. search needs)
+    (λ c κs. search needs)
+    returns)

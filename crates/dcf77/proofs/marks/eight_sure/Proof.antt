@@ -1,0 +1,36 @@
+-- `dcf77::marks::eight_sure` meets its contract. Assumes nothing.
+use borrow.Author.Needs.{needs}
+use native.Mathlib.Omega.{arith}
+use denote.Ref.{now}
+use Rattle.dcf77.proofs.MarkLaws.{eight-sure}
+use Rattle.dcf77.proofs.marks.eight_sure.Statement.{statement}
+use Rattle.dcf77.proofs.marks.eight_sure.Tie as tie
+
+returns : tie.Need-returns
+returns c =
+    let k = c .before .before .before .before .before .before .before .before in
+    let s = k .before .before in
+    let m = now (s .args .m) in
+    eight-sure m (λ i. omega (arith, k .before .shared-slice-known .given i)) (s .args .at) _ (c .join-eight .ensures)
+
+pub eight-sure-spec : {M : Type 1} → statement M
+eight-sure-spec =
+    tie.close
+    (tie.spec
+    (λ c. search needs)
+    (λ c. search needs)
+    (λ c. search needs)
+    (λ c. search needs)
+    (λ c. search needs)
+    (λ c. search needs)
+    (λ c. search needs)
+    (λ c. search needs)
+    (λ c. search needs)
+    (λ c. search needs)
+    (λ c. search needs)
+    (λ c. search needs)
+    (λ c. search needs)
+    (λ c. search needs)
+    (λ c. search needs)
+    (λ c κs. search needs)
+    returns)

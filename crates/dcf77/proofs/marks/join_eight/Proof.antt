@@ -1,0 +1,28 @@
+-- `dcf77::marks::join_eight` meets its contract. Assumes nothing.
+use borrow.Author.Needs.{needs}
+use native.Mathlib.Omega.{arith}
+use Rattle.dcf77.proofs.marks.join_eight.Statement.{statement}
+use Rattle.dcf77.proofs.marks.join_eight.Tie as tie
+
+returns : tie.Need-returns
+returns c = omega arith
+
+pub join-eight-spec : {M : Type 1} → statement M
+join-eight-spec =
+    tie.close
+    (tie.spec
+    (λ c. search needs)
+    (λ c. search needs)
+    (λ c. search needs)
+    (λ c. search needs)
+    (λ c. search needs)
+    (λ c. search needs)
+    (λ c. search needs)
+    (λ c. search needs)
+    (λ c. search needs)
+    (λ c. search needs)
+    (λ c. search needs)
+    (λ c. search needs)
+    (λ c. search needs)
+    (λ c. search needs)
+    returns)

@@ -7,8 +7,6 @@ ghost use lib.ListN.{length};
 ghost use Rattle.clock_time.specs.Errors.{errorNumber, checked};
 ghost use Rattle.layout.specs.Layout.{allowed, errorAt, offence, first, layoutError};
 ghost use Rattle.layout.specs.Text.{clockChecks, readAnswer};
-ghost use Rattle.clock_time.specs.Writing.{isAccepted};
-ghost use Rattle.clock_time.specs.Same.{sameTime};
 ghost use mathlib.Core.Bool.{cond};
 
 pub mod words;
@@ -105,16 +103,6 @@ pub fn check_clock(t: ClockTime, mismatch: bool) -> ReadAnswer
         return ReadAnswer::Read(t);
     }
     ReadAnswer::Refused(Error::Weekday)
-}
-
-// True where `a` is the clock time `t`.
-pub fn is_read_as(a: ReadAnswer, t: ClockTime) -> bool
-    ensures { λ r. ⌜ r ≡ isAccepted sameTime (readAnswer a) t ⌝ }
-{
-    match a {
-        ReadAnswer::Read(b) => clock_time::same_time(b, t),
-        ReadAnswer::Refused(_) => false,
-    }
 }
 
 // The letter where `on`, else a blank.

@@ -7,6 +7,7 @@ pub mod BitLaws
 pub mod BackLaws
 pub mod SameLaws
 pub mod RunLaws
+pub mod FitLaws
 pub mod TextLaws
 pub mod WriteLaws
 pub mod SpellLaws

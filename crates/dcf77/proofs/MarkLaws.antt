@@ -1,6 +1,7 @@
 -- Laws of marks as numbers, over any number of marks. Assumes nothing.
 use Prim.Native.Nat.{ℕ, zero, suc, _+_, _-_, _*_, _/_, _%_, _^_, _≤_, _<_}
-use native.Mathlib.Nat.{add-zero, zero-add, add-suc, suc-add, add-comm, mul-comm, mul-assoc, mod-eq-of-lt, pow-suc, pow-succ'}
+use native.Mathlib.Nat.{add-zero, zero-add, add-suc, suc-add, add-comm}
+use native.Mathlib.Nat.{mul-comm, mul-assoc, mod-eq-of-lt, pow-suc, pow-succ'}
 use native.Mathlib.Decide.{decLt, ℕ-discrete}
 use native.Mathlib.Numerals.{add-one}
 use native.Mathlib.Omega.{arith}

@@ -21,7 +21,8 @@ use Rattle.dcf77.specs.declared.MinuteTime.{MinuteTime}
 use Rattle.dcf77.proofs.MarkLaws.{small-sure, same-test, binary-below}
 use Rattle.dcf77.proofs.AcceptLaws.{leap-passes, read-accepts, accepts-read}
 use Rattle.dcf77.proofs.SameLaws.{sameMinute-refl, sameMinute-true}
-use Rattle.dcf77.proofs.TextLaws.{fits, fields-back, text-accepted}
+use Rattle.dcf77.proofs.FitLaws.{fits}
+use Rattle.dcf77.proofs.TextLaws.{fields-back, text-accepted}
 
 -- ---- what is read passes
 zone-passes : (summer : Bool)

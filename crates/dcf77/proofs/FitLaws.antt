@@ -1,0 +1,65 @@
+-- What is known of a minute whose fields pass the writer's test. Assumes nothing.
+use Prim.Native.Nat.{ℕ, _≤_, _<_}
+use mathlib.Core.Path.{_≡_, ap}
+use mathlib.Core.Bool.{Bool, true, false, cond, not, _&&_, false≢true}
+use lib.Dec.{leb, ltb, eqb}
+use lib.IntN.{ℤ, pos, negsuc}
+use borrow.Author.Tests.{not-true, eqb-true, leb-true, ltb-true}
+use Rattle.clock_time.specs.Same.{eqℤ}
+use Rattle.clock_time.proofs.Tests.{both}
+use Rattle.calendar.specs.Date.{knownDate}
+use Rattle.dcf77.specs.Numbers.{fieldsFit, isWritable}
+use Rattle.dcf77.specs.declared.MinuteTime.{MinuteTime}
+
+offset-told : (z : ℤ) (n : ℕ) → eqℤ z (pos n) ≡ true → z ≡ pos n
+unfolding eqℤ
+offset-told (pos m) n h = ap pos (eqb-true m n h)
+offset-told (negsuc m) n h = absurd (false≢true h)
+
+zone-told : (z : ℤ) (summer : Bool) → eqℤ z (cond summer (pos 120) (pos 60)) ≡ true
+    → z ≡ cond summer (pos 120) (pos 60)
+zone-told z true h = offset-told z 120 h
+zone-told z false h = offset-told z 60 h
+
+-- a minute whose fields pass
+pub record Fits (a : MinuteTime) : Type 0 where
+  pub known-date : knownDate (a .time .year) (a .time .month) (a .time .day) ≡ true
+  pub zone : a .time .«utc_offset» ≡ cond (a .time .«summer_time») (pos 120) (pos 60)
+  pub monday : 1 ≤ a .time .weekday
+  pub sunday : a .time .weekday ≤ 7
+  pub hour : a .time .hour < 24
+  pub minute : a .time .minute < 60
+  pub second : a .time .second ≡ 0
+  pub synchronised : a .time .unsynchronised ≡ false
+  pub verified : a .time .unverified ≡ false
+  pub marks : a .detail .marks < 16384
+  pub leap : (a .detail .sixty && not (a .time .«leap_second_announced» && eqb (a .time .minute) 0)) ≡ false
+
+pub fits : (a : MinuteTime) → isWritable a ≡ true → Fits a
+unfolding isWritable fieldsFit
+fits a h =
+    let t = a .time in
+    let zone = eqℤ (t .«utc_offset») (cond (t .«summer_time») (pos 120) (pos 60)) in
+    let z = both _ zone h in
+    let k = both _ (knownDate (t .year) (t .month) (t .day)) (z .0) in
+    let j = both _ (not (a .detail .sixty && not (t .«leap_second_announced» && eqb (t .minute) 0))) (k .0) in
+    let i = both _ (ltb (a .detail .marks) 16384) (j .0) in
+    let g = both _ (not (t .unverified)) (i .0) in
+    let f = both _ (not (t .unsynchronised)) (g .0) in
+    let e = both _ (eqb (t .second) 0) (f .0) in
+    let d = both _ (ltb (t .minute) 60) (e .0) in
+    let c = both _ (ltb (t .hour) 24) (d .0) in
+    let b = both (leb 1 (t .weekday)) (leb (t .weekday) 7) (c .0) in
+    record {
+      known-date = k .1;
+      zone = zone-told (t .«utc_offset») (t .«summer_time») (z .1);
+      monday = leb-true _ _ (b .0);
+      sunday = leb-true _ _ (b .1);
+      hour = ltb-true _ _ (c .1);
+      minute = ltb-true _ _ (d .1);
+      second = eqb-true _ _ (e .1);
+      synchronised = not-true _ (f .1);
+      verified = not-true _ (g .1);
+      marks = ltb-true _ _ (i .1);
+      leap = not-true _ (j .1);
+    }

@@ -1,10 +1,10 @@
--- A position that can be said is read as it was written. Assumes nothing.
+-- A position is made of the bytes of its parts, and one that can be said is read as it was written. Assumes nothing.
 use Prim.Native.Nat.{ℕ, _*_, _/_, _^_, _≤_, _<_}
 use Prim.Native.Char.{code}
 use native.Mathlib.Omega.{arith}
 use mathlib.Core.Path.{_≡_, refl, ap}
 use mathlib.Core.Bool.{true, false, _&&_}
-use mathlib.Core.List.{List}
+use mathlib.Core.List.{List, _++_}
 use lib.Dec.{leb, eqb, lit<}
 use lib.ListN.{getD}
 use lib.IntN.{ℤ, natAbs}
@@ -20,7 +20,7 @@ use Rattle.signed.proofs.SignedLaws.{sign-read, sign-written}
 use Rattle.gps_position.specs.Aligned.{padded, aligned}
 use Rattle.gps_position.specs.Position.{Angle, latitude, longitude, wholePart, decimals, hemisphere, angleSize}
 use Rattle.gps_position.specs.Position.{angleDigits, positionDigits, inRange, positionFault, angleOf, positionOf}
-use Rattle.gps_position.specs.Position.{angleBytes, positionText, positionCarried}
+use Rattle.gps_position.specs.Position.{angleBytes, angleText, positionText, positionCarried}
 use Rattle.gps_position.proofs.AlignedWrittenLaws.{value-aligned, aligned-right, four-digits, value-after}
 
 -- ---- an angle
@@ -52,6 +52,13 @@ angle-read a some room differ z small s h =
     }
 
 -- ---- the position
+-- the code's bytes, one by one: latitude is written with a third place before its point, which is left out
+pub position-parts : (p : Position) {n e h : List ℕ} → n ≡ angleBytes 3 (code "N") (code "S") (p .latitude)
+    → e ≡ angleText longitude (p .longitude) → h ≡ aligned 4 (p .height)
+    → run 1 8 n ++ ascii " " ++ run 0 9 e ++ ascii " " ++ run 0 4 h ≡ positionText p
+unfolding positionText angleBytes aligned padded digits ascii
+position-parts p a b c = rw (a, b, c)
+
 module _ (p : Position) (s : List ℕ) (e : run 41 23 s ≡ positionText p) where
   latitude-holds : Holds latitude (p .latitude) s
   unfolding positionText angleBytes aligned padded digits ascii

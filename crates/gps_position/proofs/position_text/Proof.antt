@@ -3,10 +3,8 @@ use borrow.Author.Needs.{needs, sfits-of}
 use mir.Syntax.{w32}
 use mir.Val.{SFits}
 use mir.Facts.{toZ-ofZ}
-use Rattle.decimal.specs.Decimal.{digits}
 use Rattle.layout.specs.Ascii.{ascii}
-use Rattle.gps_position.specs.Aligned.{padded, aligned}
-use Rattle.gps_position.specs.Position.{angleBytes, positionText}
+use Rattle.gps_position.proofs.PositionWrittenLaws.{position-parts}
 use Rattle.gps_position.proofs.position_text.Statement.{statement}
 use Rattle.gps_position.proofs.position_text.Tie as tie
 
@@ -17,14 +15,14 @@ longitude-fits : (c : tie.Start) → SFits w32 (c .args .p .longitude)
 longitude-fits c = search sfits-of
 
 returns : tie.Need-returns
-unfolding positionText angleBytes aligned padded digits ascii
+unfolding ascii
 returns c =
     let e = c .before .before in
     let n = e .before .before in
     let start = n .before .before in
     let latitude = rw (toZ-ofZ (latitude-fits start)) at (n .angle-text .ensures) in
     let longitude = rw (toZ-ofZ (longitude-fits start)) at (e .angle-text2 .ensures) in
-    simp (latitude, longitude, c .aligned-text .ensures)
+    position-parts (start .args .p) latitude longitude (c .aligned-text .ensures)
 
 pub position-text-spec : {M : Type 1} → statement M
 position-text-spec =

@@ -1,7 +1,6 @@
 -- Laws of the definitions, and the main results.
 pub mod OffsetLaws
 pub mod ReadLaws
-pub mod TextLaws
 pub mod BackLaws
 pub mod GpsLaws
 pub mod Theorems

@@ -87,14 +87,19 @@ readClock s p = checked (clockChecks (clockOf s) (leapMismatch s)) (record { tim
 unfoldable pub gpsFields : List ℕ → GpsTime
 gpsFields s = record { time = clockOf s; position = positionOf s }
 
--- the only string that could be read as a clock time and a position: "As PZF up to place 22" (01, Meinberg and ELV
--- strings), the flags from u to a as there, and `L` where the second is 60
+-- the layout with the bytes of a PZF string in it, "As PZF up to place 22" (01, Meinberg and ELV strings) and the flags
+-- from u to a as there, those of an offset, a letter for second 60 and the bytes of a position
+unfoldable pub lineOf : List ℕ → List ℕ → ℕ → List ℕ → List ℕ
+lineOf pzf offset leap position =
+    run 0 24 pzf ++ run 0 6 offset
+    ++ ascii "; " ++ run 25 6 pzf ++ (leap ∷ [])
+    ++ ascii "; " ++ run 0 23 position ++ ascii "m\u{3}"
+
+-- the only string that could be read as a clock time and a position
 unfoldable pub gpsText : GpsTime → List ℕ
 gpsText g =
     let t = g .time in
-    run 0 24 (pzfText t) ++ offsetText (t .«utc_offset»)
-    ++ ascii "; " ++ run 25 6 (pzfText t) ++ (letter (eqb (t .second) 60) "L" ∷ [])
-    ++ ascii "; " ++ positionText (g .position) ++ ascii "m\u{3}"
+    lineOf (pzfText t) (offsetText (t .«utc_offset»)) (letter (eqb (t .second) 60) "L") (positionText (g .position))
 
 unfoldable pub sameGps : GpsTime → GpsTime → Bool
 sameGps a b = sameTime (a .time) (b .time) && samePosition (a .position) (b .position)

@@ -1,18 +1,16 @@
 // The bytes of a whole GPS string.
 use crate::GpsTime;
 use crate::parts;
+use crate::parts::OffsetText;
+use gps_position::PositionText;
 ghost use mathlib.Core.Path.{_≡_};
-ghost use Rattle.meinberg_gps.specs.Gps.{gpsText};
+ghost use Rattle.meinberg_gps.specs.Gps.{lineOf, gpsText};
 
-// The only string that could be read as `g`: date, time and flags as in a PZF string.
-pub(crate) fn text_of(g: GpsTime) -> [u8; 66]
-    ensures { λ r. ⌜ r ≡ gpsText g ⌝ }
+// The layout with the bytes of its parts in it: a PZF string's date, time and flags, an offset, the letter for second
+// 60 and a position.
+fn line_with(pzf: [u8; 32], offset: OffsetText, leap: u8, position: PositionText) -> [u8; 66]
+    ensures { λ r. ⌜ r ≡ lineOf pzf offset leap position ⌝ }
 {
-    let t = g.time;
-    let pzf = meinberg_pzf::line_of(t);
-    let offset = parts::offset_text(t.utc_offset);
-    let leap = layout::letter_if(t.second == 60, b'L');
-    let position = gps_position::position_text(g.position);
     [
         pzf[0],
         pzf[1],
@@ -81,4 +79,16 @@ pub(crate) fn text_of(g: GpsTime) -> [u8; 66]
         b'm',
         3,
     ]
+}
+
+// The only string that could be read as `g`.
+pub(crate) fn text_of(g: GpsTime) -> [u8; 66]
+    ensures { λ r. ⌜ r ≡ gpsText g ⌝ }
+{
+    let t = g.time;
+    let pzf = meinberg_pzf::line_of(t);
+    let offset = parts::offset_text(t.utc_offset);
+    let leap = layout::letter_if(t.second == 60, b'L');
+    let position = gps_position::position_text(g.position);
+    line_with(pzf, offset, leap, position)
 }

@@ -22,8 +22,8 @@ pub fn is_leap_year(year: u16) -> bool
     (year % 4 == 0) & ((year % 100 != 0) | (year % 400 == 0))
 }
 
-// The days of a month, 0 where there is no such month: 31 in the odd months up to July and the even ones after it, 30 in
-// the others, of which February lacks two, or one in a leap year. Without a choice, since months come in no order.
+// The days of a month, 0 where there is no such month: 31 in the odd months up to July and the even ones after it, 30
+// in the others, of which February lacks two, or one in a leap year. Without a choice, since months come in no order.
 pub fn days_in_month(year: u16, month: u8) -> u8
     ensures { λ r. ⌜ r ≡ daysInMonth year month ⌝ }
 {

@@ -16,7 +16,8 @@ use Rattle.dcf77.specs.declared.MinuteTime.{MinuteTime}
 use Rattle.dcf77.specs.declared.MinuteAnswer.{MinuteAnswer}
 use Rattle.dcf77.specs.declared.MinuteAnswer.the-variants.{Read, Refused}
 
--- "15 antenna (PTB now calls it a call bit; here the sources' name stays); 16 change coming; 17, 18 zone: 0 1 offset 60, 1 0 offset 120 and summer time; 19 leap second coming
+-- "15 antenna (PTB now calls it a call bit; here the sources' name stays); 16 change coming; 17, 18 zone: 0 1 offset
+-- 60, 1 0 offset 120 and summer time; 19 leap second coming
 -- [..] minute 21..24 and tens 25..27, parity 28; hour 29..32, tens 33..34, parity 35; day 36..39, tens 40..41; weekday
 -- 42..44; month 45..48, ten 49; year 50..53, tens 54..57; parity 58. The sources give 45..49 and 50 for the month and
 -- 51..53 for the year: PTB decides. [..] A minute announces the time at which the next minute starts, second 0; the

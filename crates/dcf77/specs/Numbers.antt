@@ -43,6 +43,7 @@ firstNumber (k ∷ ks) = cond (k .fails) (k .number) (firstNumber ks)
 abbrev pub startChecks : List ℕ → List Check
 startChecks m = given 13 (not (short 0 m && long 20 m)) ∷ given 14 (eqb (getD m 17 0) (getD m 18 0)) ∷ []
 
+-- the checks of the numbers: parities, and digits above 9
 abbrev pub numberChecks : ℕ → ℕ → ℕ → List Check
 numberChecks n h d =
     given 15 (not (eqb (ones n % 2) 0))
@@ -54,10 +55,12 @@ numberChecks n h d =
     && leb (d / 262144 % 16) 9))
     ∷ []
 
+-- the checks of the weekday and the date
 abbrev pub dateChecks : ℕ → ℕ → ℕ → ℕ → List Check
 dateChecks weekday year month day =
     given 7 (not (leb 1 weekday && leb weekday 7)) ∷ given 5 (not (dateExists year month day)) ∷ []
 
+-- the checks of the time of day and of 60 marks
 abbrev pub timeChecks : List ℕ → ℕ → ℕ → List Check
 timeChecks m hour minute =
     given 6 (not (ltb hour 24 && ltb minute 60))

@@ -36,8 +36,8 @@ use Rattle.listing.specs.Line.{writeLine}
 use Rattle.listing.specs.Listing.{writeTotals}
 use Rattle.clock_fields.specs.Numbers.{minuteNumbers, putNumbers, putAnswer}
 use Rattle.clock_fields.specs.Ranges.{timeOf, gpsOf, minuteOf}
-use Rattle.radio_clock.specs.Strings.{kindNumberOf, kindNamed, readingNumbers, readNumbered, readInto, writeAs, writeFrom}
-use Rattle.radio_clock.specs.Strings.{unixTimeOf}
+use Rattle.radio_clock.specs.Strings.{kindNumberOf, kindNamed, readingNumbers, readNumbered, readInto}
+use Rattle.radio_clock.specs.Strings.{writeAs, writeFrom, unixTimeOf}
 use Rattle.radio_clock.specs.Minutes.{readMinuteInto, writeMinuteFrom}
 use Rattle.radio_clock.specs.Feed.{FeedMemory, feedInto}
 use Rattle.demands.specs.Ordered.{Ordered, Kept, Lent}

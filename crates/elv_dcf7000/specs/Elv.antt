@@ -66,8 +66,8 @@ sentFields s =
       «alternate_antenna» = false;
     }
 
--- "No weekday is sent; it is worked out from the date." (01, Meinberg and ELV strings): a clock time with the weekday of
--- its date in place of its own
+-- "No weekday is sent; it is worked out from the date." (01, Meinberg and ELV strings): a clock time with the weekday
+-- of its date in place of its own
 unfoldable pub withWeekday : ClockTime → ClockTime
 withWeekday t =
     record {

@@ -5,6 +5,7 @@ use mathlib.Core.List.{List, [], _∷_, _++_}
 use lib.Dec.{leb, eqb}
 use Rattle.decimal.specs.Decimal.{isDigit}
 
+-- each byte is a digit
 unfoldable pub areDigits : List ℕ → Bool
 areDigits [] = true
 areDigits (b ∷ s) = isDigit b && areDigits s

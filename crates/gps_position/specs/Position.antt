@@ -30,15 +30,19 @@ pub record Angle : Type 0 where
 abbrev pub latitude : Angle
 latitude = record { first = 41; whole = 2; above = "N"; below = "S"; limit = 900000 }
 
+-- the other angle
 abbrev pub longitude : Angle
 longitude = record { first = 50; whole = 3; above = "E"; below = "W"; limit = 1800000 }
 
+-- the places before the point
 abbrev pub wholePart : Angle → List ℕ → List ℕ
 wholePart a s = run (a .first) (a .whole) s
 
+-- the four places after the point
 abbrev pub decimals : Angle → List ℕ → List ℕ
 decimals a s = run (a .first + a .whole + 1) 4 s
 
+-- the letter of the hemisphere
 abbrev pub hemisphere : Angle → List ℕ → ℕ
 hemisphere a s = getD s (a .first + a .whole + 5) 0
 
@@ -46,6 +50,7 @@ hemisphere a s = getD s (a .first + a .whole + 5) 0
 abbrev pub angleSize : Angle → List ℕ → ℕ
 angleSize a s = value (wholePart a s ++ decimals a s)
 
+-- the digits and blanks of an angle stand where they must
 unfoldable pub angleDigits : Angle → List ℕ → Bool
 angleDigits a s = rightAligned (wholePart a s) && areDigits (decimals a s)
 
@@ -66,9 +71,11 @@ positionFault s = not (positionDigits s && inRange latitude s && inRange longitu
 unfoldable pub angleOf : Angle → List ℕ → ℤ
 angleOf a s = signed (eqb (hemisphere a s) (code (a .below))) (angleSize a s)
 
+-- the position that a string says
 unfoldable pub positionOf : List ℕ → Position
 positionOf s = record { latitude = angleOf latitude s; longitude = angleOf longitude s; height = number 4 60 s }
 
+-- "9 position" (01, Refusal numbers)
 unfoldable pub readPosition : List ℕ → Answer Position
 readPosition s = checked (given 9 (positionFault s) ∷ []) (positionOf s)
 
@@ -92,6 +99,7 @@ unfoldable pub angleBytes : ℕ → ℕ → ℕ → ℤ → List ℕ
 angleBytes k above below z =
     aligned k (natAbs z / 10000) ++ ascii "." ++ digits 4 (natAbs z) ++ (signByte above below z ∷ [])
 
+-- the bytes of one of the two angles
 abbrev pub angleText : Angle → ℤ → List ℕ
 angleText a z = angleBytes (a .whole) (code (a .above)) (code (a .below)) z
 
@@ -108,6 +116,7 @@ positionCarried p =
     && leb (natAbs (p .longitude)) (longitude .limit)
     && leb (p .height) 9999
 
+-- the function's answer: a position, or a refusal with the error's number
 abbrev pub positionAnswer : PositionAnswer → Answer Position
 positionAnswer (Read p) = accepted p
 positionAnswer (Refused e) = refused (errorNumber e)

@@ -66,8 +66,9 @@ written t h =
     let v = valid t h in
     let d = v .date in
     let small : t .year % 100 < 100 = omega arith in
+    let back = year-back (t .year) (d .first) (d .last) in
     record {
-      year = rw (year-digits (t .year), value-digits 2 (t .year % 100) small) (year-back (t .year) (d .first) (d .last));
+      year = rw (year-digits (t .year), value-digits 2 (t .year % 100) small) back;
       month = value-digits 2 (t .month) (omega (arith, d .month));
       day = value-digits 2 (t .day) (omega (arith, d .small));
       weekday = value-digits 1 (t .weekday) (omega (arith, v .sunday));

@@ -20,6 +20,7 @@ enough at s = cond (leb (at + 8) (length s)) s []
 unfoldable pub samplePlace : ℕ → ℕ
 samplePlace p = cond (eqb p 48) digit (cond (eqb p 0) free p)
 
+-- the places of a sample's bytes
 abbrev pub samplePlaces : List ℕ → List ℕ
 samplePlaces [] = []
 samplePlaces (p ∷ ps) = samplePlace p ∷ samplePlaces ps
@@ -32,6 +33,7 @@ sampleFits at sample s = fitsFrom true at (samplePlaces sample) (enough at s)
 unfoldable pub bySample : ℕ → ℕ → ℕ → ℕ → ℕ
 bySample forDigit forAny forFixed p = cond (eqb p 48) forDigit (cond (eqb p 0) forAny forFixed)
 
+-- such a number for each of a sample's bytes
 abbrev pub eachBySample : ℕ → ℕ → ℕ → List ℕ → List ℕ
 eachBySample forDigit forAny forFixed [] = []
 eachBySample forDigit forAny forFixed (p ∷ ps) =
@@ -59,5 +61,6 @@ lowPair at s = 10 * (getD s at 0 % 16) + getD s (suc at) 0 % 16
 unfoldable pub threeNumbers : ℕ → List ℕ → ThreeNumbers
 threeNumbers at s = record { first = lowPair at s; second = lowPair (at + 3) s; third = lowPair (at + 6) s }
 
+-- the same from a place on, 0 where there are no eight bytes
 unfoldable pub numbersAt : ℕ → List ℕ → ThreeNumbers
 numbersAt at s = threeNumbers at (enough at s)

@@ -47,6 +47,7 @@ offsetSize s = 60 * number 2 25 s + number 2 28 s
 unfoldable pub offsetFault : List ℕ → Bool
 offsetFault s = not (leb (number 2 28 s) 59 && signHolds (code "+") (code "-") 840 (getD s 24 0) (offsetSize s))
 
+-- the offset in minutes, with its sign
 unfoldable pub offsetOf : List ℕ → ℤ
 offsetOf s = signed (has "-" 24 s) (offsetSize s)
 
@@ -84,6 +85,7 @@ clockOf s =
 abbrev pub readClock : List ℕ → Position → Answer GpsTime
 readClock s p = checked (clockChecks (clockOf s) (leapMismatch s)) (record { time = clockOf s; position = p })
 
+-- what a string says: a clock time and a position
 unfoldable pub gpsFields : List ℕ → GpsTime
 gpsFields s = record { time = clockOf s; position = positionOf s }
 
@@ -101,9 +103,11 @@ gpsText g =
     let t = g .time in
     lineOf (pzfText t) (offsetText (t .«utc_offset»)) (letter (eqb (t .second) 60) "L") (positionText (g .position))
 
+-- two clock times with positions are the same
 unfoldable pub sameGps : GpsTime → GpsTime → Bool
 sameGps a b = sameTime (a .time) (b .time) && samePosition (a .position) (b .position)
 
+-- the format, with all the faults that GPS strings have beyond the shared ones
 unfoldable pub gps : Format GpsTime
 gps =
     record {
@@ -118,12 +122,15 @@ gps =
       same = sameGps;
     }
 
+-- the reader, by the rule for every time string
 unfoldable pub readGps : List ℕ → Answer GpsTime
 readGps s = readText gps s
 
+-- the writer, by the rule for every time string
 unfoldable pub writeGps : GpsTime → List ℕ → Outcome
 writeGps g buffer = writeText gps g buffer
 
+-- the function's answer: what was read, or a refusal with the error's number
 abbrev pub gpsAnswer : GpsAnswer → Answer GpsTime
 gpsAnswer (Read g) = accepted g
 gpsAnswer (Refused e) = refused (errorNumber e)

@@ -139,7 +139,9 @@ module _ (s : List ℕ) (r : Reading) where
   valid-kind : (k : Kind) → readAs k s ≡ accepted r
       → (isValid (clockOf r) ≡ true) × (z : List ℤ) × (readingNumbers r ≡ timeNumbers (clockOf r) ++ z)
   unfolding readAs gpsNumbers
-  valid-kind Standard h = let w = plain-time _ r h in rw (w .2) (standard-string.valid-read s (w .0) (w .1), [], alone (w .0))
+  valid-kind Standard h =
+      let w = plain-time _ r h in
+      rw (w .2) (standard-string.valid-read s (w .0) (w .1), [], alone (w .0))
   valid-kind Pzf h = let w = plain-time _ r h in rw (w .2) (pzf-string.valid-read s (w .0) (w .1), [], alone (w .0))
   valid-kind Gps h = let w = located-time _ r h in rw (w .2) (gps-string.valid-read s (w .0) (w .1), _, refl)
   valid-kind Elv h = let w = plain-time _ r h in rw (w .2) (elv-string.valid-read s (w .0) (w .1), [], alone (w .0))

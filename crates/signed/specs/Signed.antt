@@ -5,6 +5,7 @@ use lib.Dec.{leb, eqb}
 use lib.IntN.{ℤ, pos, negℤ}
 use lib.Signed.{nonNeg}
 
+-- the number of a size, below zero or not
 unfoldable pub signed : Bool → ℕ → ℤ
 signed negative size = cond negative (negℤ (pos size)) (pos size)
 

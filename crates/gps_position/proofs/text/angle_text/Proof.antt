@@ -1,5 +1,6 @@
 -- `gps_position::text::angle_text` meets its contract. Assumes nothing.
 use borrow.Author.Needs.{needs}
+use lib.Dec.{lit<}
 use mir.Facts.{toZ-ofZ}
 use Rattle.decimal.specs.Decimal.{digits}
 use Rattle.layout.specs.Ascii.{ascii}
@@ -25,11 +26,11 @@ angle-text-spec =
     (λ c κs. search needs)
     (λ c κs. search needs)
     (λ c κs. search needs)
-    (λ c. search needs)
-    (λ c. search needs)
-    (λ c. search needs)
-    (λ c. search needs)
-    (λ c. search needs)
-    (λ c. search needs)
-    (λ c. search needs)
+    (λ c. lit< tt)
+    (λ c. lit< tt)
+    (λ c. lit< tt)
+    (λ c. lit< tt)
+    (λ c. lit< tt)
+    (λ c. lit< tt)
+    (λ c. lit< tt)
     returns)

@@ -29,6 +29,9 @@ pub zero-less : (w : Width) (n : ℕ) → n < 2 ^ hbits w → toZ w 0 -ℤ toZ w
 unfolding signed
 zero-less w n h = rw (toZ-pos w (pow-pos (hbits w)), toZ-pos w h) (+ℤ-idl (negℤ (pos n)))
 
+pub less-held : (w : Width) (n : ℕ) → n < 2 ^ hbits w → toZ w (ofZ w (toZ w 0 -ℤ toZ w n)) ≡ signed true n
+less-held w n h = rw (zero-less w n h) (toZ-ofZ (signed-fits w true n h))
+
 -- ---- a size with its sign
 module _ (above below limit byte size : ℕ) (h : signHolds above below limit byte size ≡ true) where
   pub record SignRules : Type 0 where

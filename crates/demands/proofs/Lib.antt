@@ -1,3 +1,4 @@
 -- The main results, and the laws that they cite.
 pub mod OrderLaws
+pub mod EntryLaws
 pub mod Theorems

@@ -1,232 +1,322 @@
--- The three demands, proved of what the contracts of the public functions say. Assumes nothing.
-use Prim.Native.Nat.{ℕ}
-use mathlib.Core.Path.{_≡_, refl, sym}
-use mathlib.Core.Bool.{Bool, true, false, cond, not, _||_}
-use mathlib.Core.List.{List, [], _∷_}
-use mathlib.Core.Option.{Option, none, some}
-use lib.Dec.{eqb, leb, ltb}
-use lib.ListN.{length, getD, set}
+-- The three demands. Each sentence stands above the theorems that are it, for every entry that a user of the library
+-- or of C calls. A function's contract in src/ equates its answer and the memory lent to it, at exit, with a definition;
+-- the theorems are about these definitions. `Ordered`, `Lent` and `FromC` say what an order of refusals is, `Lines` has
+-- the lines of each entry, `Faithful` and `Corrected` have demands 2 and 3 sentence by sentence. Assumes nothing.
+use Prim.Native.Nat.{ℕ, _≤_, _<_, _^_}
+use mathlib.Core.Path.{_≡_, refl}
+use mathlib.Core.Logic.{_↔_}
+use mathlib.Core.Bool.{Bool, true, false, not, _&&_}
+use mathlib.Core.List.{List, [], _∷_, _++_}
+use lib.Dec.{leb, ltb}
+use lib.ListN.{length, getD, set, drop}
 use lib.IntN.{ℤ}
-use Rattle.clock_time.specs.Errors.{Answer, accepted, refused, given, checked}
+use Rattle.clock_time.specs.Errors.{accepted, given, checked}
+use Rattle.clock_time.specs.Exit.{exit}
+use Rattle.clock_time.specs.Faithful.{Faithful}
 use Rattle.clock_time.specs.Writing.{writing, writeBack}
+use Rattle.clock_time.specs.declared.ClockTime.{ClockTime}
 use Rattle.calendar.specs.Date.{knownDate, daysSinceEpoch, dayNumber, weekdayNumber, weekdayOf}
 use Rattle.calendar.specs.UnixTime.{isValid, instantOf, unixTime}
-use Rattle.layout.specs.Layout.{has}
-use Rattle.layout.specs.Text.{Format, clockChecks, textChecks, readText, writeText}
-use Rattle.meinberg_standard.specs.Standard.{standard, readStandard, writeStandard}
+use Rattle.decimal.specs.Decimal.{value, digits, firstNonDigit, readDigits, writeDigits}
+use Rattle.layout.specs.Accepts.{Accepts}
+use Rattle.layout.specs.Text.{clockChecks, textChecks, readText, writeText}
+use Rattle.meinberg_standard.specs.Standard.{standard, standardFields, readStandard, writeStandard}
 use Rattle.meinberg_standard.proofs.Theorems as standards
-use Rattle.meinberg_pzf.specs.Pzf.{pzf, readPzf, writePzf}
+use Rattle.meinberg_pzf.specs.Pzf.{pzf, pzfFields, readPzf, writePzf}
 use Rattle.meinberg_pzf.proofs.Theorems as pzfs
-use Rattle.meinberg_gps.specs.Gps.{gps, readGps, writeGps}
+use Rattle.gps_position.specs.Position.{positionFault, positionOf, readPosition}
+use Rattle.meinberg_gps.specs.Gps.{gps, gpsFields, readGps, writeGps}
+use Rattle.meinberg_gps.specs.declared.GpsTime.{GpsTime}
 use Rattle.meinberg_gps.proofs.Theorems as gpss
-use Rattle.elv_dcf7000.specs.Elv.{elv, readElv, writeElv}
+use Rattle.elv_dcf7000.specs.Elv.{elv, elvFields, readElv, writeElv}
 use Rattle.elv_dcf7000.proofs.Theorems as elvs
-use Rattle.time_string.specs.Kind.{kindOf, plain, located, time, timeAndPosition, readAs}
+use Rattle.time_string.specs.Kind.{Reading, kindOf, readAs}
 use Rattle.time_string.specs.declared.Kind.{Kind}
-use Rattle.time_string.specs.declared.Kind.the-variants.{Standard, Pzf, Gps, Elv}
+use Rattle.dcf77.specs.Accepts.{AcceptsMinute}
 use Rattle.dcf77.specs.Minute.{minuteChecks, minuteFields, readMinute, writeMinute, outcomeNumber, runNumber}
+use Rattle.dcf77.specs.declared.MinuteTime.{MinuteTime}
 use Rattle.dcf77.proofs.Theorems as minutes
-use Rattle.recording.specs.Gaps.{isGap, gapBefore}
-use Rattle.recording.specs.Rule.{gapNumber, ruleBy}
-use Rattle.recording.specs.Outcomes.{numbers, differences}
-use Rattle.recording.specs.Recording.{rule, outcomeAt, unfit, fillOutcomes, recorded, correctionChecks, updated}
+use Rattle.recording.specs.Demand.{Corrected}
+use Rattle.recording.specs.Gaps.{isGap, gapBefore, FirstGapAfter}
+use Rattle.recording.specs.Outcomes.{numbers}
+use Rattle.recording.specs.Rule.{ruleBy}
+use Rattle.recording.specs.Recording.{rule, outcomeAt, unfit, fillOutcomes, recorded, correctionChecks}
 use Rattle.recording.specs.Recording.{correctMark}
 use Rattle.recording.proofs.Theorems as recordings
-use Rattle.listing.specs.Line.{writeLine}
-use Rattle.listing.specs.Listing.{writeTotals}
-use Rattle.clock_fields.specs.Numbers.{minuteNumbers, putNumbers, putAnswer}
-use Rattle.clock_fields.specs.Ranges.{timeOf, gpsOf, minuteOf}
-use Rattle.radio_clock.specs.Strings.{kindNumberOf, kindNamed, readingNumbers, readNumbered, readInto}
-use Rattle.radio_clock.specs.Strings.{writeAs, writeFrom, unixTimeOf}
+use Rattle.listing.specs.Line.{lineOf, writeLine}
+use Rattle.listing.specs.Listing.{totalsLine, writeTotals}
+use Rattle.listing.specs.declared.Totals.{Totals}
+use Rattle.clock_fields.specs.Called.{answered, left, counted}
+use Rattle.clock_fields.specs.Numbers.{minuteNumbers}
+use Rattle.clock_fields.specs.Ranges.{timeRanges, gpsRanges, minuteRanges, fits, fitsAll, timeFrom, gpsFrom, minuteFrom}
+use Rattle.clock_fields.specs.Ranges.{numbered, firstTimeOf, timeOf, gpsOf, minuteOf}
+use Rattle.radio_clock.specs.Strings.{kindNumberOf, readingNumbers, readNumbered, readInto, writeFrom, unixTimeOf}
 use Rattle.radio_clock.specs.Minutes.{readMinuteInto, writeMinuteFrom}
 use Rattle.radio_clock.specs.Feed.{FeedMemory, feedInto}
-use Rattle.demands.specs.Ordered.{Ordered, Kept, Lent}
-use Rattle.demands.specs.Demand1.{textOrder, minuteOrder, linesAs, writerLines, gapLines, gapMinute, gapAnswer}
-use Rattle.demands.specs.Demand1.{Demand1}
-use Rattle.demands.specs.Demand2.{Demand2}
-use Rattle.demands.specs.Demand3.{Demand3}
-use Rattle.demands.proofs.OrderLaws.{ordered, lent, checked-map, leaves-kept, leaving-kept, answered-kept}
-use Rattle.demands.proofs.OrderLaws.{left-kept, counted-kept}
+use Rattle.radio_clock.proofs.Theorems as face
+use Rattle.demands.specs.Ordered.{Ordered, Lent, FromC}
+use Rattle.demands.specs.Lines.{textOrder, minuteOrder, linesAs, kindLines, writerLines, textLines, minuteLines}
+use Rattle.demands.specs.Lines.{gapLines, readLines, writeLines, readMinuteLines, writeMinuteLines}
+use Rattle.demands.specs.Lines.{unixTimeLines}
+use Rattle.demands.proofs.OrderLaws.{ordered, lent, from-answered, from-left, from-counted}
+use Rattle.demands.proofs.EntryLaws as entry
 
--- ---- demand 1
-text-order : {A : Type 0} (f : Format A) (s : List ℕ) → Ordered (textChecks f s) textOrder (readText f s)
-unfolding readText textChecks clockChecks
-text-order f s = ordered (f .fields s) (textChecks f s) (readText f s) refl
+-- ======== Demand 1
+-- "Any bytes, any marks, any place, any lent memory: each public entry ends with its answer or with one numbered
+-- refusal, in the order document 01 gives. A refusal hands back its number and nothing else, and changes no byte or
+-- number of the memory lent." That a function ends, on any input, is part of every function's proof.
 
-as-order : {A B : Type 0} (f : Format A) (wrap : Answer A → Answer B) (g : A → B)
-    → ((a : A) → wrap (accepted a) ≡ accepted (g a)) → ((n : ℕ) → wrap (refused n) ≡ refused n)
-    → (s : List ℕ) → Ordered (textChecks f s) textOrder (wrap (readText f s))
-unfolding readText textChecks clockChecks
-as-order f wrap g on-accepted on-refused s =
-    ordered (g (f .fields s)) (textChecks f s) (wrap (readText f s))
-    (checked-map wrap g on-accepted on-refused (textChecks f s) (f .fields s))
+-- ---- reading strings, and telling their kind
+pub read-by-kind : (kind : Kind) (s : List ℕ) → Ordered (linesAs kind s) textOrder (readAs kind s)
+read-by-kind kind s =
+    rw (← (entry.as-numbers kind s))
+    (ordered (entry.readingAs kind s) (linesAs kind s) (readAs kind s) (entry.read-as-lines kind s))
 
-by-kind-order : (kind : Kind) (s : List ℕ) → Ordered (linesAs kind s) textOrder (readAs kind s)
-unfolding readAs readStandard readPzf readGps readElv
-by-kind-order Standard s = as-order standard plain time (λ a. refl) (λ n. refl) s
-by-kind-order Pzf s = as-order pzf plain time (λ a. refl) (λ n. refl) s
-by-kind-order Gps s = as-order gps located timeAndPosition (λ a. refl) (λ n. refl) s
-by-kind-order Elv s = as-order elv plain time (λ a. refl) (λ n. refl) s
+pub read-standard : (s : List ℕ) → Ordered (textChecks standard s) textOrder (readStandard s)
+unfolding readStandard readText textChecks clockChecks
+read-standard s = ordered (standard .fields s) (textChecks standard s) _ refl
 
-kind-order : (s : List ℕ) →
-    Ordered (given 1 (not (eqb (length s) 66 || eqb (length s) 32 || eqb (length s) 21)) ∷ []) (1 ∷ []) (kindOf s)
-unfolding kindOf
-kind-order s = go (eqb (length s) 66) (eqb (length s) 32) (eqb (length s) 21)
-  where
-    go : (a b c : Bool) → Ordered {A = Kind} (given 1 (not (a || b || c)) ∷ []) (1 ∷ [])
-        (cond a (accepted Gps) (cond b (accepted (cond (has "D" 1 s) Standard Pzf)) (cond c (accepted Elv) (refused 1))))
-    go true b c = ordered Gps (given 1 false ∷ []) _ refl
-    go false true c = ordered (cond (has "D" 1 s) Standard Pzf) (given 1 false ∷ []) _ refl
-    go false false true = ordered Elv (given 1 false ∷ []) _ refl
-    go false false false = ordered Elv (given 1 true ∷ []) _ refl
+pub read-pzf : (s : List ℕ) → Ordered (textChecks pzf s) textOrder (readPzf s)
+unfolding readPzf readText textChecks clockChecks
+read-pzf s = ordered (pzf .fields s) (textChecks pzf s) _ refl
 
-minute-order : (m : List ℕ) → Ordered (minuteChecks m) minuteOrder (readMinute m)
-unfolding readMinute minuteChecks
-minute-order m = ordered (minuteFields m) (minuteChecks m) (readMinute m) refl
+pub read-gps : (s : List ℕ) → Ordered (textChecks gps s) textOrder (readGps s)
+unfolding readGps readText textChecks clockChecks
+read-gps s = ordered (gps .fields s) (textChecks gps s) _ refl
 
-writing-lent : (readable : Bool) (bytes d : List ℕ) →
+pub read-elv : (s : List ℕ) → Ordered (textChecks elv s) textOrder (readElv s)
+unfolding readElv readText textChecks clockChecks
+read-elv s = ordered (elv .fields s) (textChecks elv s) _ refl
+
+pub tell-kind : (s : List ℕ) → Ordered (kindLines s) (1 ∷ []) (kindOf s)
+tell-kind s = ordered (entry.toldKind s) (kindLines s) (kindOf s) (entry.kind-lines s)
+
+-- ---- writing strings
+-- the writer that all others end in
+pub write-bytes : (readable : Bool) (bytes d : List ℕ) →
     Lent (writerLines readable bytes d) (23 ∷ 20 ∷ []) d (writing readable bytes d)
 unfolding writing
-writing-lent readable bytes d = lent d _ (writerLines readable bytes d) (length bytes)
+write-bytes readable bytes d = lent d _ (writerLines readable bytes d) (length bytes)
 
-gap-order : (marks : List ℕ) (place : ℕ) →
-    Ordered (gapLines marks place (gapBefore marks place)) (10 ∷ minuteOrder) (gapAnswer marks place)
-unfolding minuteChecks
-gap-order marks place = go (gapBefore marks place)
-  where
-    go : (earlier : Option ℕ) → Ordered (gapLines marks place earlier) (10 ∷ minuteOrder)
-        (checked (gapLines marks place earlier) (gapMinute marks place earlier))
-    go none = ordered (gapMinute marks place none) (gapLines marks place none) _ refl
-    go (some g) = ordered (gapMinute marks place (some g)) (gapLines marks place (some g)) _ refl
+pub write-standard : (t : ClockTime) (d : List ℕ) → Lent (textLines standard t d) (23 ∷ 20 ∷ []) d (writeStandard t d)
+unfolding writeStandard writeText writeBack
+write-standard t d = write-bytes _ _ d
 
-gap-number : (marks : List ℕ) (place : ℕ) → isGap (getD marks place 0) ≡ true
-    → rule marks place ≡ outcomeNumber (gapAnswer marks place)
-unfolding ruleBy runNumber readMinute
-gap-number marks place h = rw h (go (gapBefore marks place))
-  where
-    go : (earlier : Option ℕ) → gapNumber runNumber marks place earlier
-        ≡ outcomeNumber (checked (gapLines marks place earlier) (gapMinute marks place earlier))
-    go none = refl
-    go (some g) = refl
+pub write-pzf : (t : ClockTime) (d : List ℕ) → Lent (textLines pzf t d) (23 ∷ 20 ∷ []) d (writePzf t d)
+unfolding writePzf writeText writeBack
+write-pzf t d = write-bytes _ _ d
 
-outcome-order : (marks : List ℕ) (place : ℕ) →
+pub write-gps : (g : GpsTime) (d : List ℕ) → Lent (textLines gps g d) (23 ∷ 20 ∷ []) d (writeGps g d)
+unfolding writeGps writeText writeBack
+write-gps g d = write-bytes _ _ d
+
+pub write-elv : (t : ClockTime) (d : List ℕ) → Lent (textLines elv t d) (23 ∷ 20 ∷ []) d (writeElv t d)
+unfolding writeElv writeText writeBack
+write-elv t d = write-bytes _ _ d
+
+-- ---- a DCF77 minute
+pub read-minute : (m : List ℕ) → Ordered (minuteChecks m) minuteOrder (readMinute m)
+unfolding readMinute minuteChecks
+read-minute m = ordered (minuteFields m) (minuteChecks m) (readMinute m) refl
+
+pub write-minute : (a : MinuteTime) (d : List ℕ) → Lent (minuteLines a d) (23 ∷ 20 ∷ []) d (writeMinute a d)
+unfolding writeMinute writeBack
+write-minute a d = write-bytes _ _ d
+
+-- the number of a run is its refusal's, or that of its minute
+pub run-number : (m : List ℕ) → runNumber m ≡ outcomeNumber (readMinute m)
+unfolding runNumber
+run-number m = refl
+
+-- ---- a recording, its outcomes, and the correction of a mark
+-- at a gap, 10 comes before the numbers of a minute
+pub at-a-gap : (marks : List ℕ) (place : ℕ) → isGap (getD marks place 0) ≡ true
+    → Ordered (gapLines marks place (gapBefore marks place)) (10 ∷ minuteOrder) (entry.gapAnswer marks place)
+    × (rule marks place ≡ outcomeNumber (entry.gapAnswer marks place))
+at-a-gap marks place h = (entry.gap-ordered marks place, entry.gap-number marks place h)
+
+pub at-no-gap : (marks : List ℕ) (place : ℕ) → isGap (getD marks place 0) ≡ false → rule marks place ≡ 0
+unfolding ruleBy
+at-no-gap marks place h = rw h refl
+
+pub outcome-at : (marks : List ℕ) (place : ℕ) →
     Ordered (given 20 (ltb 100000 (length marks)) ∷ given 21 (leb (length marks) place) ∷ []) (20 ∷ 21 ∷ [])
     (outcomeAt marks place)
 unfolding outcomeAt
-outcome-order marks place = ordered (rule marks place) _ (outcomeAt marks place) refl
+outcome-at marks place = ordered (rule marks place) _ (outcomeAt marks place) refl
 
-fill-lent : (marks outcomes : List ℕ) →
+pub fill-outcomes : (marks outcomes : List ℕ) →
     Lent (given 20 (unfit (length marks) (length outcomes)) ∷ []) (20 ∷ []) outcomes (fillOutcomes marks outcomes)
 unfolding fillOutcomes
-fill-lent marks outcomes =
-    lent outcomes (numbers (rule marks) (length marks)) (given 20 (unfit (length marks) (length outcomes)) ∷ []) tt
+fill-outcomes marks outcomes = lent outcomes (numbers (rule marks) (length marks)) _ tt
 
-correct-lent : (marks outcomes : List ℕ) (place mark : ℕ) →
+pub correct-mark : (marks outcomes : List ℕ) (place mark : ℕ) →
     Lent (correctionChecks marks outcomes place mark) (20 ∷ 21 ∷ 22 ∷ []) (recorded marks outcomes)
     (correctMark marks outcomes place mark)
 unfolding correctMark
-correct-lent marks outcomes place mark =
-    let marks′ = set marks place mark in
-    let outcomes′ = updated marks′ outcomes place in
-    lent (recorded marks outcomes) (recorded marks′ outcomes′)
-    (correctionChecks marks outcomes place mark) (differences outcomes outcomes′)
+correct-mark marks outcomes place mark = lent (recorded marks outcomes) _ (correctionChecks marks outcomes place mark) _
 
--- calls from C
-put-kept : (numbers fields : List ℤ) → Kept fields (putNumbers numbers fields)
-unfolding putNumbers
-put-kept numbers fields = leaves-kept fields _ (checked (given 20 (ltb (length fields) (length numbers)) ∷ []) tt)
+-- ---- the instant, dates and digits
+pub unix-time : (t : ClockTime) → Ordered (given 23 (not (isValid t)) ∷ []) (23 ∷ []) (unixTime t)
+unfolding unixTime
+unix-time t = ordered (instantOf t) _ (unixTime t) refl
 
-put-answer-kept : {A : Type 0} (numbers : A → List ℤ) (a : Answer A) (fields : List ℤ)
-    → Kept fields (putAnswer numbers a fields)
-unfolding putAnswer
-put-answer-kept numbers a fields = leaving-kept fields a _ (λ x. put-kept (numbers x) fields)
+pub day-number : (year month day : ℕ) →
+    Ordered (given 5 (not (knownDate year month day)) ∷ []) (5 ∷ []) (dayNumber year month day)
+unfolding dayNumber
+day-number year month day = ordered (daysSinceEpoch year month day) _ _ refl
 
-read-kept : (n : ℕ) (s : List ℕ) (fields : List ℤ) → Kept fields (readInto n s fields)
-unfolding readInto
-read-kept n s fields = put-answer-kept readingNumbers (readNumbered n s) fields
+pub weekday : (year month day : ℕ) →
+    Ordered (given 5 (not (knownDate year month day)) ∷ []) (5 ∷ []) (weekdayOf year month day)
+unfolding weekdayOf
+weekday year month day = ordered (weekdayNumber year month day) _ _ refl
 
-read-minute-kept : (m : List ℕ) (fields : List ℤ) → Kept fields (readMinuteInto m fields)
-unfolding readMinuteInto
-read-minute-kept m fields = put-answer-kept minuteNumbers (readMinute m) fields
+pub read-digits : (s : List ℕ) →
+    Ordered (given 1 (ltb 19 (length s)) ∷ given 3 (ltb (firstNonDigit s) (length s)) ∷ []) (1 ∷ 3 ∷ [])
+    (readDigits s .answer)
+read-digits s = ordered (value s) _ (readDigits s .answer) (entry.digits-lines s)
 
-write-as-kept : (kind : Kind) (fields : List ℤ) (d : List ℕ) → Kept d (writeAs kind fields d)
-unfolding writeAs writeStandard writePzf writeGps writeElv writeText writeBack
-write-as-kept Standard fields d = leaving-kept d (timeOf fields) _ (λ t. writing-lent _ _ d .kept)
-write-as-kept Pzf fields d = leaving-kept d (timeOf fields) _ (λ t. writing-lent _ _ d .kept)
-write-as-kept Gps fields d = leaving-kept d (gpsOf fields) _ (λ g. writing-lent _ _ d .kept)
-write-as-kept Elv fields d = leaving-kept d (timeOf fields) _ (λ t. writing-lent _ _ d .kept)
+pub write-digits : (n k : ℕ) (d : List ℕ) →
+    Lent (writerLines (leb k 19 && ltb n (10 ^ k)) (digits k n) d) (23 ∷ 20 ∷ []) d (writeDigits n k d)
+unfolding writeDigits
+write-digits n k d = write-bytes _ _ d
 
-write-kept : (n : ℕ) (fields : List ℤ) (d : List ℕ) → Kept d (writeFrom n fields d)
-unfolding writeFrom
-write-kept n fields d = leaving-kept d (kindNamed n) _ (λ kind. write-as-kept kind fields d)
+-- ---- parts of strings, and readings from numbers
+pub check-clock : (t : ClockTime) (mismatch : Bool) →
+    Ordered (clockChecks t mismatch) (5 ∷ 6 ∷ 7 ∷ []) (checked (clockChecks t mismatch) t)
+unfolding clockChecks
+check-clock t mismatch = ordered t (clockChecks t mismatch) _ refl
 
-write-minute-kept : (fields : List ℤ) (d : List ℕ) → Kept d (writeMinuteFrom fields d)
-unfolding writeMinuteFrom writeMinute writeBack
-write-minute-kept fields d = leaving-kept d (minuteOf fields) _ (λ a. writing-lent _ _ d .kept)
+pub read-position : (s : List ℕ) → Ordered (given 9 (positionFault s) ∷ []) (9 ∷ []) (readPosition s)
+unfolding readPosition
+read-position s = ordered (positionOf s) _ (readPosition s) refl
 
-feed-kept : (old : FeedMemory) (s : List ℕ) (limit : ℕ) → Kept old (feedInto old s limit)
+pub time-of : (z : List ℤ) → Ordered (given 23 (not (fitsAll timeRanges z)) ∷ []) (23 ∷ []) (timeOf z)
+unfolding numbered
+time-of z = ordered (timeFrom z) _ (timeOf z) refl
+
+pub first-time-of : (z : List ℤ) → Ordered (given 23 (not (fits timeRanges z)) ∷ []) (23 ∷ []) (firstTimeOf z)
+unfolding numbered
+first-time-of z = ordered (timeFrom z) _ (firstTimeOf z) refl
+
+pub gps-of : (z : List ℤ) → Ordered (given 23 (not (fitsAll gpsRanges z)) ∷ []) (23 ∷ []) (gpsOf z)
+unfolding numbered
+gps-of z = ordered (gpsFrom z) _ (gpsOf z) refl
+
+pub minute-of : (z : List ℤ) → Ordered (given 23 (not (fitsAll minuteRanges z)) ∷ []) (23 ∷ []) (minuteOf z)
+unfolding numbered
+minute-of z = ordered (minuteFrom z) _ (minuteOf z) refl
+
+-- ---- the lines of a listing. The feed, `list` and the tests of a date, a time or a byte refuse nothing: their answers
+-- have no case for it.
+pub write-line : (t : ClockTime) (d : List ℕ) →
+    Lent (writerLines (isValid t) (lineOf t) d) (23 ∷ 20 ∷ []) d (writeLine t d)
+unfolding writeLine
+write-line t d = write-bytes _ _ d
+
+pub write-totals : (t : Totals) (d : List ℕ) →
+    Lent (writerLines true (totalsLine t) d) (23 ∷ 20 ∷ []) d (writeTotals t d)
+unfolding writeTotals
+write-totals t d = write-bytes _ _ d
+
+-- ---- from C: the status is 0 or the number of the refusal, which leaves all that was lent
+pub c-kind : (old : ℕ) (s : List ℕ) → FromC (kindLines s) (1 ∷ []) old (answered old (kindNumberOf s))
+c-kind old s = from-answered _ (kindLines s) (1 ∷ []) refl refl old (kindNumberOf s) (entry.kind-number-lines s)
+
+-- 1 stands twice, for an unknown kind and for a wrong length
+pub c-read : (n : ℕ) (s : List ℕ) (fields : List ℤ) →
+    FromC (readLines n s fields) (1 ∷ textOrder ++ (20 ∷ [])) fields (left (readInto n s fields))
+c-read n s fields = from-left tt fields _ _ _ (entry.read-numbers n s fields) refl _ (entry.read-lines n s fields)
+
+-- 23 stands twice, for numbers that are no reading's and for a reading that nothing is read as
+pub c-write : (n : ℕ) (z : List ℤ) (d : List ℕ) (old : ℕ) →
+    FromC (writeLines n z d) (1 ∷ 23 ∷ 23 ∷ 20 ∷ []) (d, old) (counted old (writeFrom n z d))
+c-write n z d old = from-counted _ d _ _ _ (entry.write-numbers n z d) refl _ (entry.write-lines n z d) old
+
+pub c-read-minute : (m : List ℕ) (fields : List ℤ) →
+    FromC (readMinuteLines m fields) (minuteOrder ++ (20 ∷ [])) fields (left (readMinuteInto m fields))
+unfolding minuteChecks
+c-read-minute m fields = from-left tt fields _ _ _ refl refl _ (entry.read-minute-lines m fields)
+
+pub c-write-minute : (z : List ℤ) (d : List ℕ) (old : ℕ) →
+    FromC (writeMinuteLines z d) (23 ∷ 23 ∷ 20 ∷ []) (d, old) (counted old (writeMinuteFrom z d))
+c-write-minute z d old = from-counted _ d _ _ _ refl refl _ (entry.write-minute-lines z d) old
+
+pub c-unix-time : (old : ℤ) (z : List ℤ) → FromC (unixTimeLines z) (23 ∷ 23 ∷ []) old (answered old (unixTimeOf z))
+c-unix-time old z =
+    from-answered _ (unixTimeLines z) (23 ∷ 23 ∷ []) refl refl old (unixTimeOf z) (entry.unix-time-lines z)
+
+pub c-outcome-at : (old : ℕ) (marks : List ℕ) (place : ℕ) →
+    FromC (given 20 (ltb 100000 (length marks)) ∷ given 21 (leb (length marks) place) ∷ []) (20 ∷ 21 ∷ []) old
+    (answered old (outcomeAt marks place))
+unfolding outcomeAt
+c-outcome-at old marks place =
+    from-answered (rule marks place) _ (20 ∷ 21 ∷ []) refl refl old (outcomeAt marks place) refl
+
+pub c-fill-outcomes : (marks outcomes : List ℕ) →
+    FromC (given 20 (unfit (length marks) (length outcomes)) ∷ []) (20 ∷ []) outcomes
+    (left (fillOutcomes marks outcomes))
+unfolding fillOutcomes
+c-fill-outcomes marks outcomes = from-left tt outcomes (numbers (rule marks) (length marks)) _ _ refl refl _ refl
+
+pub c-correct-mark : (marks outcomes : List ℕ) (place mark old : ℕ) →
+    FromC (correctionChecks marks outcomes place mark) (20 ∷ 21 ∷ 22 ∷ []) (recorded marks outcomes, old)
+    (counted old (correctMark marks outcomes place mark))
+unfolding correctMark
+c-correct-mark marks outcomes place mark old =
+    from-counted _ (recorded marks outcomes) _ (correctionChecks marks outcomes place mark) _ refl refl _ refl old
+
+pub c-feed : (old : FeedMemory) (s : List ℕ) (limit : ℕ) →
+    FromC (given 20 (ltb (length (old .state)) 68) ∷ []) (20 ∷ []) old (left (feedInto old s limit))
 unfolding feedInto
-feed-kept old s limit = leaves-kept old _ (checked (given 20 (ltb (length (old .state)) 68) ∷ []) tt)
+c-feed old s limit = from-left tt old _ (given 20 (ltb (length (old .state)) 68) ∷ []) _ refl refl _ refl
 
-pub demand-1 : Demand1
-unfolding
-    readStandard readPzf readGps readElv writeStandard writePzf writeGps writeElv writeText writeBack writeMinute
-    unixTime dayNumber weekdayOf writeLine writeTotals
-demand-1 =
-    record {
-      read-standard = text-order standard;
-      read-pzf = text-order pzf;
-      read-gps = text-order gps;
-      read-elv = text-order elv;
-      read-by-kind = by-kind-order;
-      tell-kind = kind-order;
-      write-standard = λ t d. writing-lent _ _ d;
-      write-pzf = λ t d. writing-lent _ _ d;
-      write-gps = λ g d. writing-lent _ _ d;
-      write-elv = λ t d. writing-lent _ _ d;
-      read-minute = minute-order;
-      write-minute = λ a d. writing-lent _ _ d;
-      gap-order = gap-order;
-      gap-number = gap-number;
-      outcome-at = outcome-order;
-      fill-outcomes = fill-lent;
-      correct-mark = correct-lent;
-      unix-time = λ t. ordered (instantOf t) (given 23 (not (isValid t)) ∷ []) (unixTime t) refl;
-      day-number = λ year month day.
-          ordered (daysSinceEpoch year month day) (given 5 (not (knownDate year month day)) ∷ []) _ refl;
-      weekday = λ year month day.
-          ordered (weekdayNumber year month day) (given 5 (not (knownDate year month day)) ∷ []) _ refl;
-      write-line = λ t d. writing-lent _ _ d;
-      write-totals = λ t d. writing-lent _ _ d;
-      c-kind = λ old s. answered-kept old (kindNumberOf s);
-      c-read = λ n s fields. left-kept fields (readInto n s fields) (read-kept n s fields);
-      c-write = λ n fields d old. counted-kept d (writeFrom n fields d) old (write-kept n fields d);
-      c-read-minute = λ m fields. left-kept fields (readMinuteInto m fields) (read-minute-kept m fields);
-      c-write-minute = λ fields d old. counted-kept d (writeMinuteFrom fields d) old (write-minute-kept fields d);
-      c-unix-time = λ old fields. answered-kept old (unixTimeOf fields);
-      c-outcome-at = λ old marks place. answered-kept old (outcomeAt marks place);
-      c-fill-outcomes = λ marks outcomes. left-kept outcomes _ (fill-lent marks outcomes .kept);
-      c-correct-mark = λ marks outcomes place mark old.
-          counted-kept (recorded marks outcomes) _ old (correct-lent marks outcomes place mark .kept);
-      c-feed = λ old s limit. left-kept old (feedInto old s limit) (feed-kept old s limit);
-    }
+-- ======== Demand 2
+-- "A string or a DCF77 minute is accepted exactly when the rules in document 01 hold, and then every field, offset and
+-- flag is the one those rules give. Written back, an accepted reading gives the same bytes or marks. Given room enough,
+-- a writer refuses a reading exactly when nothing acceptable in that format reads as it."
+pub standard-faithful : Faithful (Accepts standard) standardFields readStandard writeStandard
+standard-faithful = standards.faithful
 
--- ---- demand 2
-pub demand-2 : Demand2
-demand-2 =
-    record {
-      meinberg-standard = standards.faithful;
-      meinberg-pzf = pzfs.faithful;
-      meinberg-gps = gpss.faithful;
-      elv-dcf7000 = elvs.faithful;
-      minute = minutes.faithful;
-    }
+pub pzf-faithful : Faithful (Accepts pzf) pzfFields readPzf writePzf
+pzf-faithful = pzfs.faithful
 
--- ---- demand 3
-pub demand-3 : Demand3
-demand-3 =
-    record {
-      corrected = recordings.demand-3;
-      first-gap = recordings.same-first-gap;
-      not-refused = recordings.correction-accepted;
-    }
+pub gps-faithful : Faithful (Accepts gps) gpsFields readGps writeGps
+gps-faithful = gpss.faithful
+
+pub elv-faithful : Faithful (Accepts elv) elvFields readElv writeElv
+elv-faithful = elvs.faithful
+
+pub minute-faithful : Faithful AcceptsMinute minuteFields readMinute writeMinute
+minute-faithful = minutes.faithful
+
+-- "Written back, an accepted reading gives the same bytes or marks.": from C, where a reading is an array of numbers
+pub c-written-back : (n : ℕ) (s : List ℕ) (r : Reading) → readNumbered n s ≡ accepted r
+    → (d : List ℕ) → length s ≤ length d
+    → writeFrom n (readingNumbers r) d ≡ exit (accepted (length s)) (s ++ drop (length s) d)
+c-written-back = face.write-read
+
+pub c-minute-written-back : (m : List ℕ) (a : MinuteTime) → readMinute m ≡ accepted a
+    → (d : List ℕ) → length m ≤ length d
+    → writeMinuteFrom (minuteNumbers a) d ≡ exit (accepted (length m)) (m ++ drop (length m) d)
+c-minute-written-back = face.write-read-minute
+
+-- ======== Demand 3
+-- "Whatever tape and sheet are lent, and whichever place and new mark are named, this holds after a correction that
+-- isn't refused.": `Corrected` has a named part for each of the sentences that follow
+pub corrected : (marks outcomes : List ℕ) (place mark : ℕ) (marks′ outcomes′ : List ℕ) (count : ℕ)
+    → exit (accepted count) (recorded marks′ outcomes′) ≡ correctMark marks outcomes place mark
+    → Corrected marks outcomes place mark marks′ outcomes′ count
+corrected = recordings.demand-3
+
+-- "the old and the corrected tape have the same one" (01, Tape and sheet), a first gap after the place
+pub same-first-gap : (marks : List ℕ) (place mark gap : ℕ)
+    → FirstGapAfter marks place gap ↔ FirstGapAfter (set marks place mark) place gap
+same-first-gap = recordings.same-first-gap
+
+-- 20: "sheet and tape lengths differ, tape over 100,000"; 21: "place at or past the tape's end"; 22: "new mark above 3"
+-- (01, Refusal numbers): nothing else is refused
+pub not-refused : (marks outcomes : List ℕ) (place mark : ℕ) → length marks ≡ length outcomes
+    → length marks ≤ 100000 → place < length marks → mark ≤ 3
+    → (count : ℕ) × (correctMark marks outcomes place mark .answer ≡ accepted count)
+not-refused = recordings.correction-accepted

@@ -1,5 +1,3 @@
--- What the main results say, one file for each demand.
+-- What the main results speak of: an order of refusals, and the lines of each entry.
 pub mod Ordered
-pub mod Demand1
-pub mod Demand2
-pub mod Demand3
+pub mod Lines

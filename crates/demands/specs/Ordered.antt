@@ -1,5 +1,5 @@
 -- What it means that an entry refuses in an order, and keeps what it was lent. Assumes nothing.
-use Prim.Native.Nat.{ℕ}
+use Prim.Native.Nat.{ℕ, suc}
 use mathlib.Core.Path.{_≡_}
 use mathlib.Core.Logic.{_↔_, _⊎_}
 use mathlib.Core.Bool.{true, false}
@@ -39,6 +39,9 @@ pub record Lent {A M : Type 0} (lines : List Check) (order : List ℕ) (old : M)
   pub ordered : Ordered lines order (e .answer)
   pub kept : Kept old e
 
--- the same of a call from C, which gets 0 where nothing is refused
-abbrev pub KeptFromC : {M : Type 0} → M → Called M → Type 0
-KeptFromC old c = (c .status ≡ 0 → ⊥) → c .memory ≡ old
+-- the same of a call from C, whose status is 0 where nothing is refused, else the refusal's number
+pub record FromC {M : Type 0} (lines : List Check) (order : List ℕ) (old : M) (c : Called M) : Type 0 where
+  pub numbers : numbersOf lines ≡ order
+  pub refused-exactly : (n : ℕ) → (c .status ≡ suc n) ↔ FirstHolds lines (suc n)
+  pub accepted-exactly : (c .status ≡ 0) ↔ NoneHolds lines
+  pub kept : (c .status ≡ 0 → ⊥) → c .memory ≡ old

@@ -306,7 +306,7 @@ static inline const char *radio_clock_error_text(uint8_t error)
         "parity of the hour",
         "parity of the date",
         "a decimal digit above 9",
-        "60 marks without leap second, short mark 59 and minute 0",
+        "60 marks without all of: mark 19 long, mark 59 short, minute 0",
         "lent memory: lengths differ, too long a recording, or too short a buffer",
         "place at or past the end of the recording",
         "new mark above 3",

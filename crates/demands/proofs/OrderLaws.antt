@@ -7,7 +7,7 @@ use mathlib.Core.Bool.{Bool, true, false, cond, true≢false}
 use mathlib.Core.List.{List, [], _∷_}
 use Rattle.clock_time.specs.Errors.{Answer, accepted, refused, Check, checked}
 use Rattle.clock_time.specs.Exit.{Exit, leaves}
-use Rattle.clock_fields.specs.Called.{statusOf, answered, left, counted, leaving}
+use Rattle.clock_numbers.specs.Called.{statusOf, answered, left, counted, leaving}
 use Rattle.demands.specs.Ordered.{numbersOf, FirstHolds, NoneHolds, Ordered, Kept, Lent, KeptFromC}
 
 -- no answer is accepted and refused

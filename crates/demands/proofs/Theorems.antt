@@ -34,7 +34,7 @@ use Rattle.recording.specs.Recording.{correctMark}
 use Rattle.recording.proofs.Theorems as recordings
 use Rattle.listing.specs.Line.{writeLine}
 use Rattle.listing.specs.Listing.{writeTotals}
-use Rattle.clock_fields.specs.Numbers.{minuteNumbers, putNumbers, putAnswer}
+use Rattle.clock_numbers.specs.Numbers.{minuteNumbers, putNumbers, putAnswer}
 use Rattle.clock_fields.specs.Ranges.{timeOf, gpsOf, minuteOf}
 use Rattle.radio_clock.specs.Strings.{kindNumberOf, kindNamed, readingNumbers, readNumbered, readInto}
 use Rattle.radio_clock.specs.Strings.{writeAs, writeFrom, unixTimeOf}

@@ -32,7 +32,7 @@ use Rattle.recording.specs.Recording.{rule, outcomeAt, unfit, fillOutcomes, cor
 use Rattle.listing.specs.Line.{lineOf, writeLine}
 use Rattle.listing.specs.Listing.{totalsLine, writeTotals}
 use Rattle.listing.specs.declared.Totals.{Totals}
-use Rattle.clock_fields.specs.Called.{answered, left, counted}
+use Rattle.clock_numbers.specs.Called.{answered, left, counted}
 use Rattle.radio_clock.specs.Strings.{kindNumberOf, readInto, writeFrom, unixTimeOf}
 use Rattle.radio_clock.specs.Minutes.{readMinuteInto, writeMinuteFrom}
 use Rattle.radio_clock.specs.Feed.{FeedMemory, feedInto}

@@ -38,8 +38,8 @@ use Rattle.time_string.specs.declared.Kind.{Kind}
 use Rattle.time_string.specs.declared.Kind.the-variants.{Standard, Pzf, Gps, Elv}
 use Rattle.framing.specs.Step.{start}
 use Rattle.framing.specs.Feed.{feedOf}
-use Rattle.clock_fields.specs.Called.{andThen, leaving}
-use Rattle.clock_fields.specs.Numbers.{timeNumbers, gpsNumbers, minuteNumbers}
+use Rattle.clock_numbers.specs.Called.{andThen, leaving}
+use Rattle.clock_numbers.specs.Numbers.{timeNumbers, gpsNumbers, minuteNumbers}
 use Rattle.clock_fields.specs.Ranges.{i32Range, within, timeOf}
 use Rattle.clock_fields.specs.Held.{HoldsPosition}
 use Rattle.radio_clock.specs.Strings.{kindNamed, clockOf, readingNumbers, readNumbered, writeAs, writeFrom}

@@ -11,7 +11,7 @@ use Rattle.dcf77.specs.declared.MinuteTime.{MinuteTime}
 use Rattle.framing.specs.declared.Framer.{Framer}
 use Rattle.framing.specs.Step.{start}
 use Rattle.framing.specs.Feed.{feedOf}
-use Rattle.clock_fields.specs.Numbers.{minuteNumbers}
+use Rattle.clock_numbers.specs.Numbers.{minuteNumbers}
 use Rattle.radio_clock.specs.Strings.{clockOf, readingNumbers, readNumbered, writeFrom, unixTimeOf}
 use Rattle.radio_clock.specs.Minutes.{writeMinuteFrom}
 use Rattle.radio_clock.specs.Feed.{framerIn, stateBytes, feedMemory, feedInto}

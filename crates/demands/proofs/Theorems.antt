@@ -32,8 +32,8 @@ use Rattle.recording.specs.Outcomes.{numbers, differences}
 use Rattle.recording.specs.Recording.{rule, outcomeAt, unfit, fillOutcomes, recorded, correctionChecks, updated}
 use Rattle.recording.specs.Recording.{correctMark}
 use Rattle.recording.proofs.Theorems as recordings
-use Rattle.listing.specs.Line.{writeLine}
-use Rattle.listing.specs.Listing.{writeTotals}
+use Rattle.listing_lines.specs.Line.{writeLine}
+use Rattle.listing_lines.specs.Totals.{writeTotals}
 use Rattle.clock_numbers.specs.Numbers.{minuteNumbers, putNumbers, putAnswer}
 use Rattle.clock_fields.specs.Ranges.{timeOf, gpsOf, minuteOf}
 use Rattle.radio_clock.specs.Strings.{kindNumberOf, kindNamed, readingNumbers, readNumbered, readInto}

@@ -29,9 +29,9 @@ use Rattle.dcf77.specs.declared.MinuteTime.{MinuteTime}
 use Rattle.recording.specs.Gaps.{isGap, gapBefore}
 use Rattle.recording.specs.Rule.{runBetween}
 use Rattle.recording.specs.Recording.{rule, outcomeAt, unfit, fillOutcomes, correctionChecks, correctMark, recorded}
-use Rattle.listing.specs.Line.{lineOf, writeLine}
-use Rattle.listing.specs.Listing.{totalsLine, writeTotals}
-use Rattle.listing.specs.declared.Totals.{Totals}
+use Rattle.listing_lines.specs.Line.{lineOf, writeLine}
+use Rattle.listing_lines.specs.Totals.{totalsLine, writeTotals}
+use Rattle.listing_lines.specs.declared.Totals.{Totals}
 use Rattle.clock_numbers.specs.Called.{answered, left, counted}
 use Rattle.radio_clock.specs.Strings.{kindNumberOf, readInto, writeFrom, unixTimeOf}
 use Rattle.radio_clock.specs.Minutes.{readMinuteInto, writeMinuteFrom}

@@ -42,11 +42,6 @@ kindNamed n =
     (refused 1))))
 
 -- ---- reading
--- the clock time of a reading
-abbrev pub clockOf : Reading → ClockTime
-clockOf (time t) = t
-clockOf (timeAndPosition g) = g .time
-
 -- the numbers of a reading, 14 or with a position 17
 abbrev pub readingNumbers : Reading → List ℤ
 readingNumbers (time t) = timeNumbers t

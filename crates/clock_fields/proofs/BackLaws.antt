@@ -11,7 +11,7 @@ use Rattle.clock_time.specs.Same.{eqℤ}
 use Rattle.clock_time.specs.declared.ClockTime.{ClockTime}
 use Rattle.meinberg_gps.specs.declared.GpsTime.{GpsTime}
 use Rattle.dcf77.specs.declared.MinuteTime.{MinuteTime}
-use Rattle.clock_fields.specs.Numbers.{flag, timeNumbers, gpsNumbers, minuteNumbers}
+use Rattle.clock_numbers.specs.Numbers.{flag, timeNumbers, gpsNumbers, minuteNumbers}
 use Rattle.clock_fields.specs.Ranges.{Range, upTo, i32Range, within, timeRanges, gpsRanges, minuteRanges}
 use Rattle.clock_fields.specs.Ranges.{fits, isSet}
 use Rattle.clock_fields.specs.Ranges.{timeFrom, gpsFrom, minuteFrom, timeOf, firstTimeOf, gpsOf, minuteOf}

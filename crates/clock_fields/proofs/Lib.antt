@@ -1,5 +1,4 @@
--- Laws of readings as numbers, and the main results.
-pub mod NumberLaws
+-- Laws of numbers and the readings that they stand for, and the main results.
 pub mod RangeLaws
 pub mod BackLaws
 pub mod ThereLaws

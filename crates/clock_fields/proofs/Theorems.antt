@@ -7,7 +7,7 @@ use Rattle.clock_time.specs.Errors.{accepted}
 use Rattle.clock_time.specs.declared.ClockTime.{ClockTime}
 use Rattle.meinberg_gps.specs.declared.GpsTime.{GpsTime}
 use Rattle.dcf77.specs.declared.MinuteTime.{MinuteTime}
-use Rattle.clock_fields.specs.Numbers.{timeNumbers, gpsNumbers, minuteNumbers}
+use Rattle.clock_numbers.specs.Numbers.{timeNumbers, gpsNumbers, minuteNumbers}
 use Rattle.clock_fields.specs.Ranges.{timeOf, gpsOf, minuteOf}
 use Rattle.clock_fields.specs.Held.{Holds, HoldsPosition}
 use Rattle.clock_fields.proofs.BackLaws as back

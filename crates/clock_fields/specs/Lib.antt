@@ -1,5 +1,3 @@
 -- The definitions that the contracts cite.
-pub mod Called
-pub mod Numbers
 pub mod Ranges
 pub mod Held

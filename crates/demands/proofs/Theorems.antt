@@ -43,11 +43,11 @@ use Rattle.recording.specs.Rule.{ruleBy}
 use Rattle.recording.specs.Recording.{rule, outcomeAt, unfit, fillOutcomes, recorded, correctionChecks}
 use Rattle.recording.specs.Recording.{correctMark}
 use Rattle.recording.proofs.Theorems as recordings
-use Rattle.listing.specs.Line.{lineOf, writeLine}
-use Rattle.listing.specs.Listing.{totalsLine, writeTotals}
-use Rattle.listing.specs.declared.Totals.{Totals}
-use Rattle.clock_fields.specs.Called.{answered, left, counted}
-use Rattle.clock_fields.specs.Numbers.{minuteNumbers}
+use Rattle.listing_lines.specs.Line.{lineOf, writeLine}
+use Rattle.listing_lines.specs.Totals.{totalsLine, writeTotals}
+use Rattle.listing_lines.specs.declared.Totals.{Totals}
+use Rattle.clock_numbers.specs.Called.{answered, left, counted}
+use Rattle.clock_numbers.specs.Numbers.{minuteNumbers}
 use Rattle.clock_fields.specs.Ranges.{timeRanges, gpsRanges, minuteRanges, fits, fitsAll, timeFrom, gpsFrom, minuteFrom}
 use Rattle.clock_fields.specs.Ranges.{numbered, firstTimeOf, timeOf, gpsOf, minuteOf}
 use Rattle.radio_clock.specs.Strings.{kindNumberOf, readingNumbers, readNumbered, readInto, writeFrom, unixTimeOf}

@@ -4,7 +4,7 @@ use clock_time::WriteAnswer;
 use libc::STDIN_FILENO;
 use libc::STDOUT_FILENO;
 use listing::Listing;
-use listing::Totals;
+use listing_lines::Totals;
 ghost use Rattle.io.specs.Counts.{Counts};
 
 // The state between two reads; `is_open` until a write fails.
@@ -83,7 +83,7 @@ fn list_input(start: State) -> State {
 
 fn write_totals(t: Totals) -> bool {
     let mut text = [0u8; 86];
-    match listing::write_totals(t, &mut text) {
+    match listing_lines::write_totals(t, &mut text) {
         WriteAnswer::Written(n) => write_start(&text, n),
         WriteAnswer::Refused(_) => false,
     }

@@ -15,7 +15,7 @@ use Rattle.framing.proofs.FeedLaws.{rest}
 use Rattle.listing.specs.declared.Listing.{Listing}
 use Rattle.listing.specs.declared.Listed.{Listed}
 use Rattle.listing.specs.Items.{string, overlong, readString, itemOf, itemLine}
-use Rattle.listing.specs.Listing.{itemAt, stepListing, after, textOf, takenOf, Outcome, outcome, listOf}
+use Rattle.listing.specs.Listing.{itemAt, stepListing, after, textOf, takenOf, ListedInto, listedInto, listOf}
 use Rattle.listing.specs.Calls.{taken, text, Calls, none, call}
 use Rattle.listing.proofs.ItemsLaws.{line-short}
 use Rattle.listing.proofs.ListingLaws.{after-append, text-append, taken-full, taken-on, agrees}
@@ -95,11 +95,11 @@ text-fits l (b ∷ s) room = elim (decLe 35 room) [
 -- ---- for a loop over the rest of s, `&s[i..]`
 module _
     (l : Listing) (s : List ℕ) (i : ℕ) (q : i < length s) (buffer out : List ℕ) (r : Listed)
-    (e : outcome r out ≡ listOf l (take (length s - i) (drop i s)) buffer)
+    (e : listedInto r out ≡ listOf l (take (length s - i) (drop i s)) buffer)
   where
     part-taken : r .taken ≡ takenOf l (drop i s) (length buffer)
     unfolding listOf
-    part-taken = ap (λ (o : Outcome). o .taken) (rw (rest s i) at e)
+    part-taken = ap (λ (o : ListedInto). o .taken) (rw (rest s i) at e)
 
     pub part-within : i + r .taken ≤ length s
     part-within = omega (arith, part-taken, taken-within l (drop i s) (length buffer), length-drop i s)

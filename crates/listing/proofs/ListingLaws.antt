@@ -1,18 +1,15 @@
 -- Laws of the listing over lists of bytes. Assumes nothing.
 use Prim.Native.Nat.{ℕ, suc, _+_, _-_, _≤_, _<_}
-use native.Mathlib.Omega.{arith}
 use native.Mathlib.Nat.{sub-zero, suc-add}
 use native.Mathlib.Numerals.{one-add}
 use mathlib.Core.Path.{_≡_, refl, sym, ap, _∙_}
-use mathlib.Core.Bool.{false}
 use mathlib.Core.List.{List, [], _∷_, _++_, append-assoc, append-nil}
 use borrow.Author.Tests.{lt-ltb, le-ltb}
 use lib.ListN.{length, take, drop}
 use Rattle.framing.specs.Step.{nothingYet, stepOf}
-use Rattle.framing.specs.Feed.{Feeding, feeding, isNothing, later, feedOf}
+use Rattle.framing.specs.Feed.{Feeding, feeding, later, feedOf}
 use Rattle.framing.proofs.FeedLaws.{feed-cases}
 use Rattle.listing.specs.declared.Listing.{Listing}
-use Rattle.listing.specs.declared.Totals.{Totals}
 use Rattle.listing.specs.Items.{Item, itemOf, itemLine, counted}
 use Rattle.listing.specs.Listing.{itemAt, stepListing, after, textOf, takenOf}
 

@@ -7,9 +7,11 @@ use mathlib.Core.List.{List, [], _∷_, _++_}
 use lib.ListN.{length, length-append}
 use Rattle.framing.specs.Framed.{allPlain}
 use Rattle.framing.proofs.Theorems as framing
+use Rattle.layout.specs.Ascii.{ascii}
+use Rattle.listing_lines.specs.Totals.{totalsLine}
 use Rattle.listing.specs.declared.Listing.{Listing}
 use Rattle.listing.specs.Items.{Item, string, overlong, readString, itemLine}
-use Rattle.listing.specs.Listing.{after, textOf, listOf}
+use Rattle.listing.specs.Listing.{start, after, textOf, listOf, listingOf}
 use Rattle.listing.specs.Calls.{Calls}
 use Rattle.listing.proofs.ItemsLaws.{line-short}
 use Rattle.listing.proofs.CallsLaws.{whole, taken-within, text-fits, taken-some, taken-all}
@@ -20,6 +22,12 @@ use Rattle.listing.proofs.CallsLaws.{found-text, dropped-text}
 pub cuts-do-not-matter : {l : Listing} {input shown : List ℕ} {end : Listing} → Calls l input shown end
     → (shown ≡ textOf l input) × (end ≡ after l input)
 cuts-do-not-matter calls = (whole calls .text, whole calls .state)
+
+-- the program's whole output: the heading, what all calls put, and the totals' line of the state that they leave
+pub whole-listing : {input shown : List ℕ} {end : Listing} → Calls start input shown end
+    → ascii "time zone flags\n" ++ shown ++ totalsLine (end .totals) ≡ listingOf input
+unfolding listingOf
+whole-listing calls = rw (cuts-do-not-matter calls .0, cuts-do-not-matter calls .1)
 
 -- no line is longer than that of a clock time, 35 bytes
 pub lines-short : (i : Item) → length (itemLine i) ≤ 35

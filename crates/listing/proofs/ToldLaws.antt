@@ -1,16 +1,16 @@
 -- A feed over all of s, read, counted and with its line, is what the listing tells of s. Assumes nothing.
-use Prim.Native.Nat.{ℕ, _≤_, _<_}
+use Prim.Native.Nat.{ℕ, _≤_}
 use native.Mathlib.Omega.{arith}
 use mathlib.Core.Path.{_≡_, refl, sym, ap, _∙_}
 use mathlib.Core.List.{List}
-use lib.ListN.{length, take, drop}
+use lib.ListN.{length, take}
 use lib.Seq.{take-length, length-take-le}
 use Rattle.framing.specs.Step.{FeedAnswer, nothingYet, complete, dropped}
 use Rattle.framing.specs.Feed.{Feeding, fed, feedOf}
 use Rattle.framing.specs.declared.Fed.{Fed}
 use Rattle.framing.proofs.StepsLaws.{feed-taken, feed-few}
 use Rattle.listing.specs.declared.Listing.{Listing}
-use Rattle.listing.specs.declared.Totals.{Totals}
+use Rattle.listing_lines.specs.declared.Totals.{Totals}
 use Rattle.listing.specs.declared.entry.Line.{Line}
 use Rattle.listing.specs.Items.{Item, Within, itemOf, itemLine, Shows, counted}
 use Rattle.listing.specs.Told.{Tells}

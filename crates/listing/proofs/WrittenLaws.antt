@@ -4,13 +4,13 @@ use Prim.Native.Nat.{ℕ, _+_, _-_, _≤_, _<_}
 use native.Mathlib.Omega.{arith}
 use native.Mathlib.Nat.{add-zero, add-assoc, sub-zero, sub-add-eq, zero-add}
 use mathlib.Core.Path.{_≡_, refl, sym, ap, _∙_}
-use mathlib.Core.List.{List, [], _∷_, _++_, append-assoc}
+use mathlib.Core.List.{List, _++_}
 use lib.ListN.{length, take, drop, length-drop, length-append, drop-of-length-le}
 use lib.Seq.{take-add, take-at, drop-at, paste, drop-drop, length-paste, length-take-le}
 use Rattle.framing.proofs.FeedLaws.{rest}
 use Rattle.listing.specs.declared.Listing.{Listing}
 use Rattle.listing.specs.declared.Told.{Told}
-use Rattle.listing.specs.Listing.{Outcome, after, textOf, takenOf, taking, outcome, listOf}
+use Rattle.listing.specs.Listing.{after, textOf, takenOf, taking, listedInto, listOf}
 use Rattle.listing.specs.Told.{Tells}
 use Rattle.listing.proofs.ListingLaws.{after-append, text-append, taken-full, taken-end}
 
@@ -101,23 +101,23 @@ module _
             }
 
     written-taken : takenOf now (drop i s) (length buffer - at) ≡ 0
-        → outcome (record { listing = now; taken = i; length = at }) out ≡ listOf l s buffer
+        → listedInto (record { listing = now; taken = i; length = at }) out ≡ listOf l s buffer
     unfolding listOf
     written-taken z =
-        same-outcome ∙ ap (taking l s buffer) (sym (w .goes ∙ ap (λ (n : ℕ). i + n) z ∙ add-zero i))
+        same-listed ∙ ap (taking l s buffer) (sym (w .goes ∙ ap (λ (n : ℕ). i + n) z ∙ add-zero i))
       where
         buffers : out ≡ textOf l (take i s) ++ drop (length (textOf l (take i s))) buffer
         buffers = w .text ∙ ap (λ (n : ℕ). textOf l (take i s) ++ drop n buffer) (w .size)
 
-        same-outcome : outcome (record { listing = now; taken = i; length = at }) out ≡ taking l s buffer i
-        same-outcome j = record { listing = w .state j; taken = i; length = w .size j; buffer = buffers j }
+        same-listed : listedInto (record { listing = now; taken = i; length = at }) out ≡ taking l s buffer i
+        same-listed j = record { listing = w .state j; taken = i; length = w .size j; buffer = buffers j }
 
     -- the loop ends at the bytes' end
     pub written-end : length s ≤ i
-        → outcome (record { listing = now; taken = i; length = at }) out ≡ listOf l s buffer
+        → listedInto (record { listing = now; taken = i; length = at }) out ≡ listOf l s buffer
     written-end h = written-taken (rw (drop-of-length-le s h) (taken-end now (length buffer - at)))
 
     -- or where there is no room for any line
     pub written-full : length out - at < 35
-        → outcome (record { listing = now; taken = i; length = at }) out ≡ listOf l s buffer
+        → listedInto (record { listing = now; taken = i; length = at }) out ≡ listOf l s buffer
     written-full h = written-taken (taken-full now (drop i s) (length buffer - at) (omega (arith, w .same)))

@@ -3,14 +3,14 @@ use Prim.Native.Nat.{ℕ}
 use mathlib.Core.List.{List, [], _++_}
 use lib.ListN.{take}
 use Rattle.listing.specs.declared.Listing.{Listing}
-use Rattle.listing.specs.Listing.{Outcome, listOf}
+use Rattle.listing.specs.Listing.{ListedInto, listOf}
 
--- the bytes that a call takes of s, and the text that it puts to the front of its buffer
-abbrev pub taken : List ℕ → Outcome → List ℕ
+-- the bytes that a call takes of s
+abbrev pub taken : List ℕ → ListedInto → List ℕ
 taken s r = take (r .taken) s
 
 -- the text that a call put to the front of its buffer
-abbrev pub text : Outcome → List ℕ
+abbrev pub text : ListedInto → List ℕ
 text r = take (r .length) (r .buffer)
 
 -- from the state l, calls on any slices and with any buffers take the bytes `input`, put the bytes `shown` to the

@@ -1,31 +1,25 @@
 -- What the listing makes of each string. Assumes nothing.
-use Prim.Native.Nat.{ℕ, zero, suc, _+_, _/_, _%_, _^_, _≤_}
+use Prim.Native.Nat.{ℕ, _+_, _%_, _^_, _≤_}
 use mathlib.Core.Path.{_≡_}
-use mathlib.Core.Bool.{cond}
-use mathlib.Core.List.{List, [], _∷_, _++_}
-use lib.Dec.{ltb}
+use mathlib.Core.List.{List, [], _++_}
 use lib.ListN.{length, take}
 use Rattle.clock_time.specs.Errors.{Answer, accepted, refused, errorNumber}
 use Rattle.clock_time.specs.declared.ClockTime.{ClockTime}
 use Rattle.layout.specs.Ascii.{ascii}
 use Rattle.time_string.specs.declared.Kind.{Kind}
-use Rattle.time_string.specs.Kind.{Reading, time, timeAndPosition, kindOf, readAs}
+use Rattle.time_string.specs.Kind.{Reading, readingTime, kindOf, readAs}
 use Rattle.framing.specs.Step.{FeedAnswer, nothingYet, complete, dropped}
-use Rattle.listing.specs.Line.{lineOf}
-use Rattle.listing.specs.declared.Totals.{Totals}
+use Rattle.listing_lines.specs.Line.{lineOf}
+use Rattle.listing_lines.specs.Numeral.{numeral}
+use Rattle.listing_lines.specs.declared.Totals.{Totals}
 use Rattle.listing.specs.declared.entry.Entry.{Entry}
 use Rattle.listing.specs.declared.entry.Entry.the-variants as entries
 use Rattle.listing.specs.declared.entry.Line.{Line}
 
 -- ---- reading a string
--- the listing shows no position
-abbrev pub clockOf : Reading → ClockTime
-clockOf (time t) = t
-clockOf (timeAndPosition g) = g .time
-
--- the clock time of what was read
+-- the clock time of what was read; the listing shows no position
 abbrev pub clockAnswer : Answer Reading → Answer ClockTime
-clockAnswer (accepted r) = accepted (clockOf r)
+clockAnswer (accepted r) = accepted (readingTime r)
 clockAnswer (refused k) = refused k
 
 -- a string read as the kind that was told
@@ -64,15 +58,6 @@ entryItem (entries.Refused e) = string (refused (errorNumber e))
 entryItem entries.Dropped = overlong
 
 -- ---- lines
--- a number of at most k + 1 digits in decimal, with no zero in front
-unfoldable pub numeralWithin : ℕ → ℕ → List ℕ
-numeralWithin zero n = (48 + n % 10) ∷ []
-numeralWithin (suc k) n = cond (ltb n 10) ((48 + n % 10) ∷ []) (numeralWithin k (n / 10) ++ ((48 + n % 10) ∷ []))
-
--- a number of 64 bits in decimal, which has at most 20 digits
-abbrev pub numeral : ℕ → List ℕ
-numeral n = numeralWithin 19 n
-
 -- "refused 6", "A dropped string writes `dropped`", "each line ended by LF" (01, Examples)
 unfoldable pub itemLine : Item → List ℕ
 itemLine nothing = []

@@ -1,15 +1,14 @@
 -- The listing of a stream of bytes, byte by byte, so that it does not depend on how the stream is cut. Assumes nothing.
 use Prim.Native.Nat.{ℕ, suc, _-_}
-use mathlib.Core.Bool.{true, cond}
+use mathlib.Core.Bool.{cond}
 use mathlib.Core.List.{List, [], _∷_, _++_}
 use lib.Dec.{ltb}
 use lib.ListN.{length, take, drop}
-use Rattle.clock_time.specs.Writing as writing
 use Rattle.layout.specs.Ascii.{ascii}
 use Rattle.framing.specs.Step as feed
-use Rattle.framing.specs.Step.{Stepped, stepOf}
-use Rattle.listing.specs.Items.{Item, itemOf, itemLine, counted, numeral}
-use Rattle.listing.specs.declared.Totals.{Totals}
+use Rattle.framing.specs.Step.{stepOf}
+use Rattle.listing_lines.specs.Totals.{totalsLine}
+use Rattle.listing.specs.Items.{Item, itemOf, itemLine, counted}
 use Rattle.listing.specs.declared.Listing.{Listing}
 use Rattle.listing.specs.declared.Listed.{Listed}
 
@@ -30,7 +29,8 @@ unfoldable pub after : Listing → List ℕ → Listing
 after l [] = l
 after l (b ∷ s) = after (stepListing l b) s
 
--- the text of some bytes: a line for each string, complete or dropped
+-- "A small program that lists what it finds on standard input." (01, What the first build covers): the text of some
+-- bytes, a line for each string, complete or dropped
 unfoldable pub textOf : Listing → List ℕ → List ℕ
 textOf l [] = []
 textOf l (b ∷ s) = itemLine (itemAt l b) ++ textOf (stepListing l b) s
@@ -42,18 +42,18 @@ takenOf l (b ∷ s) room =
     cond (ltb room 35) 0 (suc (takenOf (stepListing l b) s (room - length (itemLine (itemAt l b)))))
 
 -- the state after the bytes taken, and the buffer: its first `length` bytes are their text
-pub record Outcome : Type 0 where
+pub record ListedInto : Type 0 where
   pub listing : Listing
   pub taken : ℕ
   pub length : ℕ
   pub buffer : List ℕ
 
 -- the result of a call and the buffer at exit, as one value
-abbrev pub outcome : Listed → List ℕ → Outcome
-outcome r buffer = record { listing = r .listing; taken = r .taken; length = r .length; buffer = buffer }
+abbrev pub listedInto : Listed → List ℕ → ListedInto
+listedInto r buffer = record { listing = r .listing; taken = r .taken; length = r .length; buffer = buffer }
 
 -- n bytes of s are taken, their text stands at the front of the buffer, and nothing after it changes
-abbrev pub taking : Listing → List ℕ → List ℕ → ℕ → Outcome
+abbrev pub taking : Listing → List ℕ → List ℕ → ℕ → ListedInto
 taking l s buffer n =
     record {
       listing = after l (take n s);
@@ -63,19 +63,8 @@ taking l s buffer n =
     }
 
 -- what a call on the bytes s and a buffer comes to
-unfoldable pub listOf : Listing → List ℕ → List ℕ → Outcome
+unfoldable pub listOf : Listing → List ℕ → List ℕ → ListedInto
 listOf l s buffer = taking l s buffer (takenOf l s (length buffer))
-
--- "frames 2 refused 1 dropped 0", "each line ended by LF" (01, Examples)
-unfoldable pub totalsLine : Totals → List ℕ
-totalsLine t =
-    ascii "frames " ++ numeral (t .frames)
-    ++ ascii " refused " ++ numeral (t .refused)
-    ++ ascii " dropped " ++ numeral (t .dropped) ++ ascii "\n"
-
--- "20 [..] a buffer too short to write to" (01, Refusal numbers)
-unfoldable pub writeTotals : Totals → List ℕ → writing.Outcome
-writeTotals t buffer = writing.writing true (totalsLine t) buffer
 
 -- "The program [..] writes [..] `time zone flags`" (01, Examples), a line for each string, and the totals
 unfoldable pub listingOf : List ℕ → List ℕ

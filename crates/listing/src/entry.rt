@@ -1,9 +1,8 @@
 // What is listed of a string.
-use crate::Totals;
-use crate::line;
 use clock_time::ClockTime;
 use clock_time::Error;
 use framing::Event;
+use listing_lines::Totals;
 use time_string::KindAnswer;
 use time_string::TimeAnswer;
 ghost use mathlib.Core.Path.{_≡_};
@@ -112,7 +111,7 @@ pub(crate) fn line_of(entry: Entry) -> Line
             length: 0,
         },
         Entry::Read(t) => Line {
-            text: line::line_of(t),
+            text: listing_lines::line::line_of(t),
             length: 35,
         },
         Entry::Refused(e) => refused_line(clock_time::error_number(e)),

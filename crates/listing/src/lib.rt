@@ -1,29 +1,16 @@
 // The listing of the strings in a stream of bytes, line by line.
-use clock_time::ClockTime;
-use clock_time::WriteAnswer;
 use framing::Framer;
+use listing_lines::Totals;
 ghost use mathlib.Core.Path.{_≡_};
 ghost use Prim.Native.Nat.{_+_, _≤_};
 ghost use lib.ListN.{length};
 ghost use lib.Seq.{paste};
-ghost use Rattle.clock_time.specs.Writing as writing;
-ghost use Rattle.listing.specs.Line.{writeLine};
-ghost use Rattle.listing.specs.Listing.{start, outcome, listOf, writeTotals};
+ghost use Rattle.listing.specs.Listing.{start, listedInto, listOf};
 ghost use Rattle.listing.specs.Told.{Tells};
 
-mod copy;
 mod entry;
-mod last_line;
-mod line;
 
 use entry::Line;
-
-// How many strings were complete, complete but refused, and dropped, each modulo 2 ^ 64.
-pub struct Totals {
-    pub frames: u64,
-    pub refused: u64,
-    pub dropped: u64,
-}
 
 // The state between two bytes.
 pub struct Listing {
@@ -45,25 +32,6 @@ struct Told {
     taken: usize,
 }
 
-// Writes the line of a clock time, its line feed included, to the front of `out`: 23 where its fields are no valid
-// reading, 20 where there is no room for 35 bytes.
-pub fn write_line(t: ClockTime, out: &mut [u8]) -> WriteAnswer
-    ensures { λ r. ⌜ writing.outcome r (now (out .exit)) ≡ writeLine t (now (out .entry)) ⌝ }
-{
-    let text = line::line_of(t);
-    clock_time::write_bytes(calendar::unix_time::is_valid(t), &text, out)
-}
-
-// Writes the line of the totals, its line feed included, to the front of `out`: 20 where there is no room for it.
-pub fn write_totals(t: Totals, out: &mut [u8]) -> WriteAnswer
-    ensures { λ r. ⌜ writing.outcome r (now (out .exit)) ≡ writeTotals t (now (out .entry)) ⌝ }
-{
-    let line = last_line::line_of(t);
-    let text = line.text;
-    let n = line.length;
-    clock_time::write_bytes(true, &text[..n], out)
-}
-
 // Puts the line into `out` from `at` on.
 fn put_line(out: &mut [u8], at: usize, line: Line)
     requires { ⌜ (at + line .length ≤ length (now out)) × (line .length ≤ length (line .text)) ⌝ }
@@ -71,7 +39,7 @@ fn put_line(out: &mut [u8], at: usize, line: Line)
 {
     let text = line.text;
     let n = line.length;
-    copy::put(out, at, &text[..n])
+    clock_time::write_bytes(true, &text[..n], &mut out[at..]);
 }
 
 // Takes the bytes of s up to the first that ends a string.
@@ -111,7 +79,7 @@ impl Listing {
 
     // Takes bytes of s as long as `out` has room for any line, 35 bytes, and puts their text to the front of `out`.
     pub fn list(self, s: &[u8], out: &mut [u8]) -> Listed
-        ensures { λ r. ⌜ outcome r (now (out .exit)) ≡ listOf self (now (s .entry)) (now (out .entry)) ⌝ }
+        ensures { λ r. ⌜ listedInto r (now (out .exit)) ≡ listOf self (now (s .entry)) (now (out .entry)) ⌝ }
     {
         let mut listing = self;
         let mut at = 0;

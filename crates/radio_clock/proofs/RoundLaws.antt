@@ -33,16 +33,16 @@ use Rattle.dcf77.specs.Minute.{minuteFields, readMinute}
 use Rattle.dcf77.specs.declared.MinuteTime.{MinuteTime}
 use Rattle.dcf77.proofs.MarkLaws.{small-sure, binary-below}
 use Rattle.dcf77.proofs.Theorems as minute
-use Rattle.time_string.specs.Kind.{Reading, time, timeAndPosition, plain, located, readAs}
+use Rattle.time_string.specs.Kind.{Reading, time, timeAndPosition, readingTime, plain, located, readAs}
 use Rattle.time_string.specs.declared.Kind.{Kind}
 use Rattle.time_string.specs.declared.Kind.the-variants.{Standard, Pzf, Gps, Elv}
 use Rattle.framing.specs.Step.{start}
 use Rattle.framing.specs.Feed.{feedOf}
-use Rattle.clock_fields.specs.Called.{andThen, leaving}
-use Rattle.clock_fields.specs.Numbers.{timeNumbers, gpsNumbers, minuteNumbers}
+use Rattle.clock_numbers.specs.Called.{andThen, leaving}
+use Rattle.clock_numbers.specs.Numbers.{timeNumbers, gpsNumbers, minuteNumbers}
 use Rattle.clock_fields.specs.Ranges.{i32Range, within, timeOf}
 use Rattle.clock_fields.specs.Held.{HoldsPosition}
-use Rattle.radio_clock.specs.Strings.{kindNamed, clockOf, readingNumbers, readNumbered, writeAs, writeFrom}
+use Rattle.radio_clock.specs.Strings.{kindNamed, readingNumbers, readNumbered, writeAs, writeFrom}
 use Rattle.radio_clock.specs.Strings.{unixTimeOf}
 use Rattle.radio_clock.specs.Minutes.{writeMinuteFrom}
 use Rattle.radio_clock.specs.Feed.{modeOf, framerIn, stateBytes, eventNumber, feedMemory, feedInto}
@@ -137,7 +137,7 @@ module _ (s : List ℕ) (r : Reading) where
       ∙ elv-string.faithful .written-back s (w .0) (w .1) d room)
 
   valid-kind : (k : Kind) → readAs k s ≡ accepted r
-      → (isValid (clockOf r) ≡ true) × (z : List ℤ) × (readingNumbers r ≡ timeNumbers (clockOf r) ++ z)
+      → (isValid (readingTime r) ≡ true) × (z : List ℤ) × (readingNumbers r ≡ timeNumbers (readingTime r) ++ z)
   unfolding readAs gpsNumbers
   valid-kind Standard h =
       let w = plain-time _ r h in
@@ -154,11 +154,11 @@ unfolding readNumbered writeFrom
 write-read n s r h d room = kind-read (kindNamed n) s r h (λ k e read. rw e (write-kind s r k read d room))
 
 pub unix-time-read : (n : ℕ) (s : List ℕ) (r : Reading) → readNumbered n s ≡ accepted r
-    → unixTimeOf (readingNumbers r) ≡ accepted (instantOf (clockOf r))
+    → unixTimeOf (readingNumbers r) ≡ accepted (instantOf (readingTime r))
 unfolding readNumbered
 unix-time-read n s r h =
     kind-read (kindNamed n) s r h
-    (λ k e read. let w = valid-kind s r k read in rw (w .2) (instant-on (clockOf r) (w .0) (w .1)))
+    (λ k e read. let w = valid-kind s r k read in rw (w .2) (instant-on (readingTime r) (w .0) (w .1)))
 
 pub write-read-minute : (m : List ℕ) (a : MinuteTime) → readMinute m ≡ accepted a
     → (d : List ℕ) → length m ≤ length d

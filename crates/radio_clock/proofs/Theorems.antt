@@ -5,14 +5,14 @@ use mathlib.Core.List.{List, _++_}
 use lib.ListN.{length, take, drop, replicate}
 use Rattle.clock_time.specs.Errors.{accepted}
 use Rattle.calendar.specs.UnixTime.{instantOf}
-use Rattle.time_string.specs.Kind.{Reading}
+use Rattle.time_string.specs.Kind.{Reading, readingTime}
 use Rattle.dcf77.specs.Minute.{readMinute}
 use Rattle.dcf77.specs.declared.MinuteTime.{MinuteTime}
 use Rattle.framing.specs.declared.Framer.{Framer}
 use Rattle.framing.specs.Step.{start}
 use Rattle.framing.specs.Feed.{feedOf}
-use Rattle.clock_fields.specs.Numbers.{minuteNumbers}
-use Rattle.radio_clock.specs.Strings.{clockOf, readingNumbers, readNumbered, writeFrom, unixTimeOf}
+use Rattle.clock_numbers.specs.Numbers.{minuteNumbers}
+use Rattle.radio_clock.specs.Strings.{readingNumbers, readNumbered, writeFrom, unixTimeOf}
 use Rattle.radio_clock.specs.Minutes.{writeMinuteFrom}
 use Rattle.radio_clock.specs.Feed.{framerIn, stateBytes, feedMemory, feedInto}
 use Rattle.radio_clock.proofs.StateLaws as state
@@ -33,7 +33,7 @@ write-read-minute = round.write-read-minute
 
 -- every string that is read has an instant
 pub unix-time-read : (n : ℕ) (s : List ℕ) (r : Reading) → readNumbered n s ≡ accepted r
-    → unixTimeOf (readingNumbers r) ≡ accepted (instantOf (clockOf r))
+    → unixTimeOf (readingNumbers r) ≡ accepted (instantOf (readingTime r))
 unix-time-read = round.unix-time-read
 
 -- 68 zero bytes are the state before the first byte

@@ -5,8 +5,8 @@ use lib.IntN.{ℤ}
 use Rattle.clock_time.specs.Exit.{Exit}
 use Rattle.clock_time.specs.Writing.{Outcome}
 use Rattle.dcf77.specs.Minute.{readMinute, writeMinute}
-use Rattle.clock_fields.specs.Called.{leaving}
-use Rattle.clock_fields.specs.Numbers.{minuteNumbers, putAnswer}
+use Rattle.clock_numbers.specs.Called.{leaving}
+use Rattle.clock_numbers.specs.Numbers.{minuteNumbers, putAnswer}
 use Rattle.clock_fields.specs.Ranges.{minuteOf}
 
 -- the minute that was read is put in front of the numbers lent: as the minute's reader, and then 20 where there is no

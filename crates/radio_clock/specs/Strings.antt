@@ -16,8 +16,8 @@ use Rattle.elv_dcf7000.specs.Elv.{writeElv}
 use Rattle.time_string.specs.Kind.{kindOf, Reading, time, timeAndPosition, readAs}
 use Rattle.time_string.specs.declared.Kind.{Kind}
 use Rattle.time_string.specs.declared.Kind.the-variants.{Standard, Pzf, Gps, Elv}
-use Rattle.clock_fields.specs.Called.{andThen, leaving}
-use Rattle.clock_fields.specs.Numbers.{timeNumbers, gpsNumbers, putAnswer}
+use Rattle.clock_numbers.specs.Called.{andThen, leaving}
+use Rattle.clock_numbers.specs.Numbers.{timeNumbers, gpsNumbers, putAnswer}
 use Rattle.clock_fields.specs.Ranges.{timeOf, firstTimeOf, gpsOf}
 
 -- ---- kinds
@@ -42,11 +42,6 @@ kindNamed n =
     (refused 1))))
 
 -- ---- reading
--- the clock time of a reading
-abbrev pub clockOf : Reading → ClockTime
-clockOf (time t) = t
-clockOf (timeAndPosition g) = g .time
-
 -- the numbers of a reading, 14 or with a position 17
 abbrev pub readingNumbers : Reading → List ℤ
 readingNumbers (time t) = timeNumbers t

@@ -7,7 +7,7 @@ ghost use mathlib.Core.List.{_++_};
 ghost use Prim.Native.Nat.{_≤_};
 ghost use lib.ListN.{length, drop};
 ghost use Rattle.framing.specs.Step.{answerOf};
-ghost use Rattle.clock_fields.specs.Called.{called, left};
+ghost use Rattle.clock_numbers.specs.Called.{called, left};
 ghost use Rattle.radio_clock.specs.Feed.{modeNumber, modeOf, framerIn, stateBytes, eventNumber, feedMemory};
 ghost use Rattle.radio_clock.specs.Feed.{feedInto};
 

@@ -1,10 +1,9 @@
 // The Unix time of a reading's numbers.
 use calendar::unix_time::UnixTime;
-use clock_fields::from_numbers;
 use layout::ReadAnswer;
 ghost use mathlib.Core.Path.{_≡_};
 ghost use Rattle.calendar.specs.UnixTime.{unixTimeAnswer};
-ghost use Rattle.clock_fields.specs.Called.{called, answered};
+ghost use Rattle.clock_numbers.specs.Called.{called, answered};
 ghost use Rattle.radio_clock.specs.Strings.{unixTimeOf};
 
 fn put_instant(answer: UnixTime, time: &mut i64) -> u8
@@ -24,7 +23,7 @@ fn put_instant(answer: UnixTime, time: &mut i64) -> u8
 pub extern "C" fn radio_clock_unix_time(fields: &[i32], time: &mut i64) -> u8
     ensures { λ r. ⌜ called r (now (time .exit)) ≡ answered (now (time .entry)) (unixTimeOf (now (fields .entry))) ⌝ }
 {
-    match from_numbers::first_time_of(fields) {
+    match clock_fields::first_time_of(fields) {
         ReadAnswer::Read(t) => put_instant(calendar::unix_time::unix_time(t), time),
         ReadAnswer::Refused(e) => clock_time::error_number(e),
     }

@@ -1,12 +1,10 @@
 // A DCF77 minute: reading and writing a run of marks.
 use crate::written;
-use clock_fields::from_numbers;
-use clock_fields::to_numbers;
 use clock_time::WriteAnswer;
 use dcf77::MinuteAnswer;
 ghost use mathlib.Core.Path.{_≡_};
 ghost use Rattle.clock_time.specs.Writing.{outcome};
-ghost use Rattle.clock_fields.specs.Called.{called, left, counted};
+ghost use Rattle.clock_numbers.specs.Called.{called, left, counted};
 ghost use Rattle.radio_clock.specs.Minutes.{readMinuteInto, writeMinuteFrom};
 
 // Reads a run of marks into the first 16 of the numbers lent: as the minute's reader refuses, and 20 where there is no
@@ -17,13 +15,13 @@ pub extern "C" fn radio_clock_read_minute(marks: &[u8], fields: &mut [i32]) -> u
         called r (now (fields .exit)) ≡ left (readMinuteInto (now (marks .entry)) (now (fields .entry)))
         ⌝ }
 {
-    to_numbers::put_minute(dcf77::read_minute(marks), fields)
+    clock_numbers::put_minute(dcf77::read_minute(marks), fields)
 }
 
 fn write_numbers(fields: &[i32], out: &mut [u8]) -> WriteAnswer
     ensures { λ r. ⌜ outcome r (now (out .exit)) ≡ writeMinuteFrom (now (fields .entry)) (now (out .entry)) ⌝ }
 {
-    match from_numbers::minute_of(fields) {
+    match clock_fields::minute_of(fields) {
         MinuteAnswer::Read(a) => dcf77::write_minute(a, out),
         MinuteAnswer::Refused(e) => WriteAnswer::Refused(e),
     }

@@ -1,7 +1,5 @@
 // Time strings: the kind of a string, reading and writing by kind number.
 use crate::written;
-use clock_fields::from_numbers;
-use clock_fields::to_numbers;
 use clock_time::ClockTime;
 use clock_time::WriteAnswer;
 use layout::ReadAnswer;
@@ -10,7 +8,7 @@ use time_string::Kind;
 use time_string::KindAnswer;
 ghost use mathlib.Core.Path.{_≡_};
 ghost use Rattle.clock_time.specs.Writing.{outcome};
-ghost use Rattle.clock_fields.specs.Called.{called, answered, left, counted};
+ghost use Rattle.clock_numbers.specs.Called.{called, answered, left, counted};
 ghost use Rattle.radio_clock.specs.Strings.{kindNumber, kindNumberOf, readInto, writeTime, writePlain, writeAs};
 ghost use Rattle.radio_clock.specs.Strings.{writeFrom};
 
@@ -46,16 +44,16 @@ pub extern "C" fn radio_clock_read(kind: u8, s: &[u8], fields: &mut [i32]) -> u8
     ensures { λ r. ⌜ called r (now (fields .exit)) ≡ left (readInto kind (now (s .entry)) (now (fields .entry))) ⌝ }
 {
     if kind == 0 {
-        return to_numbers::put_time(meinberg_standard::read_standard(s), fields);
+        return clock_numbers::put_time(meinberg_standard::read_standard(s), fields);
     }
     if kind == 1 {
-        return to_numbers::put_time(meinberg_pzf::read_pzf(s), fields);
+        return clock_numbers::put_time(meinberg_pzf::read_pzf(s), fields);
     }
     if kind == 2 {
-        return to_numbers::put_gps(meinberg_gps::read_gps(s), fields);
+        return clock_numbers::put_gps(meinberg_gps::read_gps(s), fields);
     }
     if kind == 3 {
-        return to_numbers::put_time(elv_dcf7000::read_elv(s), fields);
+        return clock_numbers::put_time(elv_dcf7000::read_elv(s), fields);
     }
     1
 }
@@ -76,7 +74,7 @@ fn write_time(kind: u8, t: ClockTime, out: &mut [u8]) -> WriteAnswer
 fn write_plain(kind: u8, fields: &[i32], out: &mut [u8]) -> WriteAnswer
     ensures { λ r. ⌜ outcome r (now (out .exit)) ≡ writePlain kind (now (fields .entry)) (now (out .entry)) ⌝ }
 {
-    match from_numbers::time_of(fields) {
+    match clock_fields::time_of(fields) {
         ReadAnswer::Read(t) => write_time(kind, t, out),
         ReadAnswer::Refused(e) => WriteAnswer::Refused(e),
     }
@@ -85,7 +83,7 @@ fn write_plain(kind: u8, fields: &[i32], out: &mut [u8]) -> WriteAnswer
 fn write_gps(fields: &[i32], out: &mut [u8]) -> WriteAnswer
     ensures { λ r. ⌜ outcome r (now (out .exit)) ≡ writeAs Kind.Gps (now (fields .entry)) (now (out .entry)) ⌝ }
 {
-    match from_numbers::gps_of(fields) {
+    match clock_fields::gps_of(fields) {
         GpsAnswer::Read(g) => meinberg_gps::write_gps(g, out),
         GpsAnswer::Refused(e) => WriteAnswer::Refused(e),
     }

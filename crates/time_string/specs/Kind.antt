@@ -38,6 +38,11 @@ pub data Reading : Type 0 where
   time : ClockTime → Reading
   timeAndPosition : GpsTime → Reading
 
+-- the clock time of a reading, without its position
+abbrev pub readingTime : Reading → ClockTime
+readingTime (time t) = t
+readingTime (timeAndPosition g) = g .time
+
 -- the answer of a reader whose strings have no position
 abbrev pub plain : Answer ClockTime → Answer Reading
 plain (accepted t) = accepted (time t)

@@ -1,6 +1,5 @@
 -- `listing::entry::entry_at` meets its contract. Assumes nothing.
 use borrow.Author.Needs.{needs}
-use native.Mathlib.Omega.{arith}
 use mathlib.Core.Path.{sym, _∙_}
 use lib.Seq.{length-take-le}
 use Rattle.listing.proofs.entry.entry_at.Statement.{statement}

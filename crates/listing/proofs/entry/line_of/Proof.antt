@@ -1,7 +1,6 @@
 -- `listing::entry::line_of` meets its contract. Assumes nothing.
 use borrow.Author.Needs.{needs}
 use native.Mathlib.Omega.{arith}
-use lib.Seq.{take-all}
 use mathlib.Core.Path.{refl}
 use Rattle.layout.specs.Ascii.{ascii}
 use Rattle.listing.specs.Items.{itemLine}

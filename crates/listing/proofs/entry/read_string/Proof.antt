@@ -1,6 +1,6 @@
 -- `listing::entry::read_string` meets its contract. Assumes nothing.
 use borrow.Author.Needs.{needs}
-use mathlib.Core.Path.{sym, _∙_}
+use mathlib.Core.Path.{_∙_}
 use Rattle.listing.specs.Items.{readString}
 use Rattle.listing.proofs.entry.read_string.Statement.{statement}
 use Rattle.listing.proofs.entry.read_string.Tie as tie

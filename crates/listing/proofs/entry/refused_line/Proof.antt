@@ -1,10 +1,9 @@
 -- `listing::entry::refused_line` meets its contract. Assumes nothing.
 use borrow.Author.Needs.{needs}
 use native.Mathlib.Omega.{arith}
-use mathlib.Core.Path.{sym}
 use Rattle.layout.specs.Ascii.{ascii}
 use Rattle.listing.specs.Items.{itemLine}
-use Rattle.listing.proofs.ItemsLaws.{numeral-one, numeral-two}
+use Rattle.listing_lines.proofs.NumeralLaws.{numeral-one, numeral-two}
 use Rattle.listing.proofs.entry.refused_line.Statement.{statement}
 use Rattle.listing.proofs.entry.refused_line.Tie as tie
 

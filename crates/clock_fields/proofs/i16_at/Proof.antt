@@ -1,0 +1,17 @@
+-- `clock_fields::i16_at` meets its contract. Assumes nothing.
+use borrow.Author.Needs.{needs}
+use mir.Syntax.{w32}
+use mir.Facts.{toZ-ofZ}
+use Rattle.clock_numbers.proofs.NumberLaws.{kept}
+use Rattle.clock_fields.proofs.RangeLaws.{i16-fits}
+use Rattle.clock_fields.proofs.i16_at.Statement.{statement}
+use Rattle.clock_fields.proofs.i16_at.Tie as tie
+
+cast-result : tie.Need-cast-result
+cast-result c = rw (kept w32 (c .result .given)) (i16-fits _ (c .before .pre .1))
+
+returns : tie.Need-returns
+returns c = rw (kept w32 (c .result .given)) (toZ-ofZ (i16-fits _ (c .before .pre .1)))
+
+pub i16-at-spec : {M : Type 1} → statement M
+i16-at-spec = tie.close (tie.spec (λ c. search needs) (λ c. search needs) cast-result returns)

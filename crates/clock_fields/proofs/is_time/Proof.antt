@@ -1,0 +1,20 @@
+-- `clock_fields::is_time` meets its contract. Assumes nothing.
+use borrow.Author.Needs.{needs}
+use Rattle.clock_fields.specs.Ranges.{ranges, timeRanges}
+use Rattle.clock_fields.proofs.is_time.Statement.{statement}
+use Rattle.clock_fields.proofs.is_time.Tie as tie
+
+returns : tie.Need-returns
+unfolding ranges timeRanges
+returns c = c .are-within .ensures
+
+pub is-time-spec : {M : Type 1} → statement M
+is-time-spec =
+    tie.close
+    (tie.spec
+    (λ c. search needs)
+    (λ c. search needs)
+    (λ c. search needs)
+    (λ c. search needs)
+    (λ c κs. search needs)
+    returns)

@@ -1,0 +1,2 @@
+-- Laws of readings as numbers.
+pub mod NumberLaws

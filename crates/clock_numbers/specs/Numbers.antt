@@ -1,0 +1,57 @@
+-- Readings as the numbers that C has, in their order, and how they are put into lent memory. Assumes nothing.
+use mathlib.Core.Bool.{Bool, cond}
+use mathlib.Core.List.{List, [], _∷_, _++_}
+use lib.Dec.{ltb}
+use lib.ListN.{length, drop}
+use lib.IntN.{ℤ, pos}
+use Rattle.clock_time.specs.Errors.{Answer, given, checked}
+use Rattle.clock_time.specs.Exit.{Exit, leaves}
+use Rattle.clock_time.specs.declared.ClockTime.{ClockTime}
+use Rattle.meinberg_gps.specs.declared.GpsTime.{GpsTime}
+use Rattle.dcf77.specs.declared.MinuteTime.{MinuteTime}
+use Rattle.clock_numbers.specs.Called.{leaving}
+
+-- a flag as a number: 1 where it is set, else 0
+abbrev pub flag : Bool → ℤ
+flag on = cond on (pos 1) (pos 0)
+
+-- "Year, month, day, weekday (1 Monday to 7 Sunday), hour, minute, second, offset in minutes (local minus UTC, signed),
+-- and six flags: unsynchronised, unverified, summer time, change coming, leap second coming, alternate antenna." (01,
+-- The reading)
+unfoldable pub timeNumbers : ClockTime → List ℤ
+timeNumbers t =
+    pos (t .year)
+    ∷ pos (t .month)
+    ∷ pos (t .day)
+    ∷ pos (t .weekday)
+    ∷ pos (t .hour)
+    ∷ pos (t .minute)
+    ∷ pos (t .second)
+    ∷ t .«utc_offset»
+    ∷ flag (t .unsynchronised)
+    ∷ flag (t .unverified)
+    ∷ flag (t .«summer_time»)
+    ∷ flag (t .«dst_change_announced»)
+    ∷ flag (t .«leap_second_announced»)
+    ∷ flag (t .«alternate_antenna»)
+    ∷ []
+
+-- "A GPS string adds position and height" (01, The reading)
+unfoldable pub gpsNumbers : GpsTime → List ℤ
+gpsNumbers g =
+    timeNumbers (g .time) ++ (g .position .latitude ∷ g .position .longitude ∷ pos (g .position .height) ∷ [])
+
+-- "a minute adds its marks 1..14 and whether it had 60 marks" (01, The reading)
+unfoldable pub minuteNumbers : MinuteTime → List ℤ
+minuteNumbers a = timeNumbers (a .time) ++ (pos (a .detail .marks) ∷ flag (a .detail .sixty) ∷ [])
+
+-- "20 lent memory: [..] a buffer too short to write to" (01, Refusal numbers): numbers are put in front, and "nothing
+-- after them" changes
+unfoldable pub putNumbers : List ℤ → List ℤ → Exit (Unit {0}) (List ℤ)
+putNumbers numbers lent =
+    leaves lent (numbers ++ drop (length numbers) lent)
+    (checked (given 20 (ltb (length lent) (length numbers)) ∷ []) tt)
+
+-- the numbers of what a reader accepted are put in front of those lent; its refusal stays
+unfoldable pub putAnswer : {A : Type 0} → (A → List ℤ) → Answer A → List ℤ → Exit (Unit {0}) (List ℤ)
+putAnswer numbers a lent = leaving lent a (λ x. putNumbers (numbers x) lent)

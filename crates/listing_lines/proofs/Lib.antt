@@ -1,0 +1,5 @@
+-- Laws of the lines of a listing.
+pub mod LineLaws
+pub mod NumeralLaws
+pub mod PartLaws
+pub mod LastLineLaws

@@ -1,0 +1,19 @@
+-- The line of the totals. Assumes nothing.
+use Prim.Native.Nat.{ℕ}
+use mathlib.Core.Bool.{true}
+use mathlib.Core.List.{List, _++_}
+use Rattle.clock_time.specs.Writing.{Outcome, writing}
+use Rattle.layout.specs.Ascii.{ascii}
+use Rattle.listing_lines.specs.Numeral.{numeral}
+use Rattle.listing_lines.specs.declared.Totals.{Totals}
+
+-- "frames 2 refused 1 dropped 0", "each line ended by LF" (01, Examples)
+unfoldable pub totalsLine : Totals → List ℕ
+totalsLine t =
+    ascii "frames " ++ numeral (t .frames)
+    ++ ascii " refused " ++ numeral (t .refused)
+    ++ ascii " dropped " ++ numeral (t .dropped) ++ ascii "\n"
+
+-- "20 [..] a buffer too short to write to" (01, Refusal numbers)
+unfoldable pub writeTotals : Totals → List ℕ → Outcome
+writeTotals t buffer = writing true (totalsLine t) buffer

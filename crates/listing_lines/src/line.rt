@@ -1,0 +1,70 @@
+// The line of a clock time.
+use clock_time::ClockTime;
+ghost use mathlib.Core.Path.{_≡_};
+ghost use mathlib.Core.Bool.{cond};
+ghost use Rattle.listing_lines.specs.Line.{flagsText, lineOf};
+
+fn letter_or_dash(on: bool, letter: u8) -> u8
+    ensures { λ r. ⌜ r ≡ cond on letter 45 ⌝ }
+{
+    if on { letter } else { b'-' }
+}
+
+fn flags_text(t: ClockTime) -> [u8; 7]
+    ensures { λ r. ⌜ r ≡ flagsText t ⌝ }
+{
+    [
+        letter_or_dash(t.unsynchronised, b'#'),
+        letter_or_dash(t.unverified, b'*'),
+        letter_or_dash(t.summer_time, b'S'),
+        letter_or_dash(t.dst_change_announced, b'!'),
+        letter_or_dash(t.leap_second_announced, b'A'),
+        letter_or_dash(t.alternate_antenna, b'R'),
+        letter_or_dash(t.second == 60, b'L'),
+    ]
+}
+
+// The line with the fields of `t`, the bytes of its offset and of its flags.
+pub fn line_of(t: ClockTime) -> [u8; 35]
+    ensures { λ r. ⌜ r ≡ lineOf t ⌝ }
+{
+    let zone = meinberg_gps::parts::offset_text(t.utc_offset);
+    let flags = flags_text(t);
+    [
+        (48 + t.year / 10 / 10 / 10 % 10) as u8,
+        (48 + t.year / 10 / 10 % 10) as u8,
+        (48 + t.year / 10 % 10) as u8,
+        (48 + t.year % 10) as u8,
+        b'-',
+        48 + t.month / 10 % 10,
+        48 + t.month % 10,
+        b'-',
+        48 + t.day / 10 % 10,
+        48 + t.day % 10,
+        b' ',
+        48 + t.hour / 10 % 10,
+        48 + t.hour % 10,
+        b':',
+        48 + t.minute / 10 % 10,
+        48 + t.minute % 10,
+        b':',
+        48 + t.second / 10 % 10,
+        48 + t.second % 10,
+        b' ',
+        zone[0],
+        zone[1],
+        zone[2],
+        zone[3],
+        zone[4],
+        zone[5],
+        b' ',
+        flags[0],
+        flags[1],
+        flags[2],
+        flags[3],
+        flags[4],
+        flags[5],
+        flags[6],
+        b'\n',
+    ]
+}

@@ -16,7 +16,7 @@ use Rattle.calendar.proofs.DateLaws.{known-exists}
 use Rattle.dcf77.specs.Marks.{long, binary, twoDigits}
 use Rattle.dcf77.specs.Minute.{announced, minuteFields, readMinute, minuteText, sameMinute}
 use Rattle.dcf77.specs.Accepts.{AcceptsMinute}
-use Rattle.dcf77.specs.Numbers.{fieldsFit, isWritable}
+use Rattle.dcf77.specs.Writable.{fieldsFit, isWritable}
 use Rattle.dcf77.specs.declared.MinuteTime.{MinuteTime}
 use Rattle.dcf77.proofs.MarkLaws.{small-sure, same-test, binary-below}
 use Rattle.dcf77.proofs.AcceptLaws.{leap-passes, read-accepts, accepts-read}

@@ -1,16 +1,13 @@
-// One DCF77 minute: reading, writing and numbering a run of marks.
+// One DCF77 minute: reading and numbering a run of marks.
 use clock_time::ClockTime;
 use clock_time::Error;
 use clock_time::MinuteDetail;
-use clock_time::WriteAnswer;
 ghost use mathlib.Core.Path.{_≡_};
-ghost use Rattle.clock_time.specs.Writing.{outcome};
-ghost use Rattle.dcf77.specs.Minute.{readMinute, minuteAnswer, writeMinute, runNumber};
+ghost use Rattle.dcf77.specs.Minute.{readMinute, minuteAnswer, runNumber};
 
 mod marks;
 mod numbering;
 mod reading;
-mod writing;
 
 // The time that a minute announces, with its marks 1 to 14 and whether it had 60.
 pub struct MinuteTime {
@@ -52,16 +49,6 @@ pub fn read_minute(m: &[u8]) -> MinuteAnswer
         return MinuteAnswer::Refused(reading::error_of(in_time));
     }
     MinuteAnswer::Read(a)
-}
-
-// Writes a minute as a run of marks to the front of `out`: 23 where no run is read as it, 20 where there is no room.
-pub fn write_minute(a: MinuteTime, out: &mut [u8]) -> WriteAnswer
-    ensures { λ r. ⌜ outcome r (now (out .exit)) ≡ writeMinute a (now (out .entry)) ⌝ }
-{
-    let line = writing::line_of(a);
-    let detail = a.detail;
-    let count = 59 + detail.sixty as usize;
-    writing::write_run(a, &line[..count], out)
 }
 
 // The number of a run of marks: the error's, or that of the minute.

@@ -1,22 +1,18 @@
--- What an accepted minute's number is made of: its marks as 0 and 1, and a date that has a day number. Assumes nothing.
+-- What an accepted minute's number is made of: a date that has a day number, and an offset of 120 in summer. Assumes
+-- nothing.
 use Prim.Native.Nat.{ℕ}
 use mathlib.Core.Path.{_≡_, refl, _∙_}
 use mathlib.Core.Bool.{Bool, true, false, cond}
 use mathlib.Core.List.{List}
 use lib.IntN.{pos}
-use mir.Val.{boolByte}
 use Rattle.clock_time.specs.Errors.{accepted}
 use Rattle.clock_time.specs.Same.{eqℤ}
 use Rattle.calendar.specs.Date.{knownDate}
 use Rattle.calendar.proofs.DateLaws.{known-exists}
 use Rattle.dcf77.specs.Marks.{long, twoDigits}
-use Rattle.dcf77.specs.Minute.{announced, minuteFields, readMinute, mark}
+use Rattle.dcf77.specs.Minute.{announced, minuteFields, readMinute}
 use Rattle.dcf77.specs.declared.MinuteTime.{MinuteTime}
 use Rattle.dcf77.proofs.AcceptLaws.{read-accepts}
-
-pub mark-byte : (b : Bool) → boolByte b ≡ mark b
-mark-byte true = refl
-mark-byte false = refl
 
 pub accepted-known : (m : List ℕ) (a : MinuteTime) → readMinute m ≡ accepted a
     → knownDate (a .time .year) (a .time .month) (a .time .day) ≡ true
@@ -30,7 +26,7 @@ unfolding eqℤ
 zone-summer true = refl
 zone-summer false = refl
 
-pub fields-summer : (m : List ℕ) (a : MinuteTime) → a ≡ minuteFields m
+pub accepted-summer : (m : List ℕ) (a : MinuteTime) → readMinute m ≡ accepted a
     → eqℤ (a .time .«utc_offset») (pos 120) ≡ a .time .«summer_time»
 unfolding minuteFields announced
-fields-summer m a h = rw h (zone-summer (long 17 m))
+accepted-summer m a h = rw (read-accepts m a h .1) (zone-summer (long 17 m))

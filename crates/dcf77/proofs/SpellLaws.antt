@@ -13,7 +13,7 @@ use lib.Arith.{digits-lt}
 use lib.Pow.{pow-pos, pow-add, field, mod-mod-pow}
 use Rattle.calendar.specs.Date.{sum}
 use Rattle.dcf77.specs.Marks.{bits}
-use Rattle.dcf77.specs.Numbers.{Spells}
+use Rattle.dcf77.specs.Writable.{Spells}
 use Rattle.dcf77.specs.Minute.{mark, withParity}
 
 -- ---- bits

@@ -1,7 +1,7 @@
 -- A run of marks is read back as a minute exactly if the minute's fields pass the writer's test. Assumes nothing.
 use Prim.Native.Nat.{ℕ, _<_}
-use mathlib.Core.Path.{_≡_, refl, sym, _∙_}
-use mathlib.Core.Bool.{Bool, true, false, cond, not, _&&_, true≢false, false≢true}
+use mathlib.Core.Path.{_≡_, refl, _∙_}
+use mathlib.Core.Bool.{Bool, true, false, cond, _&&_, false≢true}
 use mathlib.Core.List.{List}
 use lib.Dec.{ltb, eqb}
 use lib.IntN.{pos}
@@ -16,7 +16,7 @@ use Rattle.calendar.proofs.DateLaws.{known-exists}
 use Rattle.dcf77.specs.Marks.{long, binary, twoDigits}
 use Rattle.dcf77.specs.Minute.{announced, minuteFields, readMinute, minuteText, sameMinute}
 use Rattle.dcf77.specs.Accepts.{AcceptsMinute}
-use Rattle.dcf77.specs.Numbers.{fieldsFit, isWritable}
+use Rattle.dcf77.specs.Writable.{fieldsFit, isWritable}
 use Rattle.dcf77.specs.declared.MinuteTime.{MinuteTime}
 use Rattle.dcf77.proofs.MarkLaws.{small-sure, same-test, binary-below}
 use Rattle.dcf77.proofs.AcceptLaws.{leap-passes, read-accepts, accepts-read}

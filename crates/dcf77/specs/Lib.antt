@@ -3,3 +3,4 @@ pub mod Marks
 pub mod Minute
 pub mod Accepts
 pub mod Numbers
+pub mod Writable

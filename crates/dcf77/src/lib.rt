@@ -1,16 +1,13 @@
-// One DCF77 minute: reading, writing and numbering a run of marks.
+// One DCF77 minute: reading and numbering a run of marks.
 use clock_time::ClockTime;
 use clock_time::Error;
 use clock_time::MinuteDetail;
-use clock_time::WriteAnswer;
 ghost use mathlib.Core.Path.{_≡_};
-ghost use Rattle.clock_time.specs.Writing.{outcome};
-ghost use Rattle.dcf77.specs.Minute.{readMinute, minuteAnswer, writeMinute, runNumber};
+ghost use Rattle.dcf77.specs.Minute.{readMinute, minuteAnswer, runNumber};
 
 mod marks;
 mod numbering;
 mod reading;
-mod writing;
 
 // The time that a minute announces, with its marks 1 to 14 and whether it had 60.
 pub struct MinuteTime {
@@ -54,50 +51,23 @@ pub fn read_minute(m: &[u8]) -> MinuteAnswer
     MinuteAnswer::Read(a)
 }
 
-// Writes a minute as a run of marks to the front of `out`: 23 where no run is read as it, 20 where there is no room.
-pub fn write_minute(a: MinuteTime, out: &mut [u8]) -> WriteAnswer
-    ensures { λ r. ⌜ outcome r (now (out .exit)) ≡ writeMinute a (now (out .entry)) ⌝ }
-{
-    let line = writing::line_of(a);
-    let detail = a.detail;
-    let count = 59 + detail.sixty as usize;
-    writing::write_run(a, &line[..count], out)
-}
-
 // The number of a run of marks: the error's, or that of the minute.
 pub fn run_number(m: &[u8]) -> u32
     ensures { λ r. ⌜ r ≡ runNumber (now (m .entry)) ⌝ }
 {
-    if !((m.len() == 59) | (m.len() == 60)) {
-        return 11;
+    match read_minute(m) {
+        MinuteAnswer::Read(a) => {
+            let t = a.time;
+            let d = a.detail;
+            let flags = numbering::flags_number(
+                d.sixty,
+                t.summer_time,
+                t.alternate_antenna,
+                t.dst_change_announced,
+                t.leap_second_announced,
+            );
+            numbering::minute_number(t.year, t.month, t.day, t.hour, t.minute, flags)
+        }
+        MinuteAnswer::Refused(e) => clock_time::error_number(e) as u32,
     }
-    if !marks::all_sure(m) {
-        return 12;
-    }
-    let minute = marks::read_eight(m, 21);
-    let hour = marks::read_hour(m);
-    let date = marks::read_date(m);
-    let in_marks = reading::marks_error(m, minute, hour, date);
-    if in_marks != 0 {
-        return in_marks as u32;
-    }
-    let a = reading::fields(m, minute, hour, date);
-    let t = a.time;
-    let in_date = reading::date_error(t.weekday, t.year, t.month, t.day);
-    if in_date != 0 {
-        return in_date as u32;
-    }
-    let in_time = reading::time_error(m, t.hour, t.minute);
-    if in_time != 0 {
-        return in_time as u32;
-    }
-    let d = a.detail;
-    let flags = numbering::flags_number(
-        d.sixty,
-        t.summer_time,
-        t.alternate_antenna,
-        t.dst_change_announced,
-        t.leap_second_announced,
-    );
-    numbering::minute_number(t.year, t.month, t.day, t.hour, t.minute, flags)
 }

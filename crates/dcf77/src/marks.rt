@@ -6,7 +6,6 @@ ghost use lib.Dec.{eqb};
 ghost use lib.ListN.{length};
 ghost use lib.Count.{ones};
 ghost use Rattle.dcf77.specs.Marks.{allSure, binary};
-ghost use Rattle.dcf77.specs.Minute.{mark};
 ghost use Rattle.dcf77.specs.Numbers.{Sure, sureFrom, fourBytes};
 
 // Eight bytes side by side as one number. As one sum, so that the compiler makes a single load of them.
@@ -100,23 +99,9 @@ pub(crate) fn read_date(m: &[u8]) -> u32
     low + 256 * (middle + 256 * (read_eight(m, 51) / 2))
 }
 
-// 1 for a long mark, 0 for a short one.
-pub(crate) fn bit(long: bool) -> u32
-    ensures { λ r. ⌜ (r ≤ 1) × (r ≡ mark long) ⌝ }
-{
-    long as u32
-}
-
-// 1 where an odd number of bits is set, else 0.
-pub(crate) fn parity(n: u64) -> u64
-    ensures { λ r. ⌜ r ≡ ones n % 2 ⌝ }
-{
-    (u64::count_ones(n) % 2) as u64
-}
-
 // True where an odd number of bits is set.
 pub(crate) fn is_odd(n: u32) -> bool
     ensures { λ r. ⌜ r ≡ not (eqb (ones n % 2) 0) ⌝ }
 {
-    parity(n as u64) != 0
+    bits::parity(n as u64) != 0
 }

@@ -1,9 +1,8 @@
 // The number of an accepted minute.
-use crate::marks;
 use calendar::date::DateAnswer;
 ghost use mathlib.Core.Path.{_≡_};
 ghost use mathlib.Core.Bool.{true};
-ghost use Prim.Native.Nat.{_+_, _*_, _≤_, _<_};
+ghost use Prim.Native.Nat.{_+_, _*_, _<_};
 ghost use Rattle.calendar.specs.Date.{knownDate, daysSinceEpoch};
 ghost use Rattle.dcf77.specs.Minute.{mark};
 
@@ -34,19 +33,19 @@ pub(crate) fn flags_number(
     change: bool,
     leap: bool,
 ) -> u32
-    ensures { λ r. ⌜ (r ≤ 31)
+    ensures { λ r. ⌜ (r < 8192)
         × (r ≡ 16 * mark sixty + 8 * mark summer + 4 * mark antenna + 2 * mark change + mark leap) ⌝ }
 {
-    16 * marks::bit(sixty)
-        + 8 * marks::bit(summer)
-        + 4 * marks::bit(antenna)
-        + 2 * marks::bit(change)
-        + marks::bit(leap)
+    16 * (bits::bit(sixty) as u32)
+        + 8 * (bits::bit(summer) as u32)
+        + 4 * (bits::bit(antenna) as u32)
+        + 2 * (bits::bit(change) as u32)
+        + bits::bit(leap) as u32
 }
 
 // The number of a minute that was read, from its date, its time of day and what the flags add.
 pub(crate) fn minute_number(year: u16, month: u8, day: u8, hour: u8, minute: u8, flags: u32) -> u32
-    requires { ⌜ (knownDate year month day ≡ true) × (flags ≤ 31) ⌝ }
+    requires { ⌜ (knownDate year month day ≡ true) × (flags < 8192) ⌝ }
     ensures { λ r. ⌜ r ≡ 100 + 32 * (1440 * daysSinceEpoch year month day + 60 * hour + minute) + flags ⌝ }
 {
     100 + 32 * local_minutes(days_to(year, month, day), hour, minute) + flags

@@ -22,7 +22,7 @@ fn write_numbers(fields: &[i32], out: &mut [u8]) -> WriteAnswer
     ensures { λ r. ⌜ outcome r (now (out .exit)) ≡ writeMinuteFrom (now (fields .entry)) (now (out .entry)) ⌝ }
 {
     match clock_fields::minute_of(fields) {
-        MinuteAnswer::Read(a) => dcf77::write_minute(a, out),
+        MinuteAnswer::Read(a) => dcf77_writer::write_minute(a, out),
         MinuteAnswer::Refused(e) => WriteAnswer::Refused(e),
     }
 }

@@ -53,7 +53,7 @@ fn write_at(m: &mut [u8], at: usize, a: MinuteTime) -> WriteAnswer {
     if m.len() < at {
         return WriteAnswer::Refused(Error::LentMemory);
     }
-    dcf77::write_minute(a, &mut m[at..])
+    dcf77_writer::write_minute(a, &mut m[at..])
 }
 
 // Puts a mark, and returns the place after it; nothing past the end.

@@ -28,7 +28,7 @@ fn put_read(out: &mut Buffer, at: usize, m: &[u8]) -> usize {
         MinuteAnswer::Read(a) => {
             let n = put_minute(out, at, a);
             let mut back = [9u8; 60];
-            let answer = dcf77::write_minute(a, &mut back);
+            let answer = dcf77_writer::write_minute(a, &mut back);
             strings::put_back(out, n, m, answer, text::first(&back, m.len()))
         }
         MinuteAnswer::Refused(e) => output::put_error(out, at, e),
@@ -70,9 +70,9 @@ fn minute_time(f: Fields) -> MinuteTime {
 
 fn into_marks(a: MinuteTime, space: &mut [u8], room: usize) -> WriteAnswer {
     if space.len() < room {
-        return dcf77::write_minute(a, space);
+        return dcf77_writer::write_minute(a, space);
     }
-    dcf77::write_minute(a, &mut space[0..room])
+    dcf77_writer::write_minute(a, &mut space[0..room])
 }
 
 fn write(line: &[u8], out: &mut Buffer, n: usize) -> usize {

@@ -1,0 +1,13 @@
+-- `dcf77_writer::writing::line_of` meets its contract. Assumes nothing.
+use borrow.Author.Needs.{needs}
+use mathlib.Core.Path.{_∙_}
+use Rattle.dcf77.proofs.SpellLaws.{spells-pad}
+use Rattle.dcf77_writer.proofs.writing.line_of.Statement.{statement}
+use Rattle.dcf77_writer.proofs.writing.line_of.Tie as tie
+
+returns : tie.Need-returns
+returns c = c .put-bits .ensures ∙ spells-pad (c .before .spell-run .ensures)
+
+pub line-of-spec : {M : Type 1} → statement M
+line-of-spec =
+    tie.close (tie.spec (λ c κs. search needs) (λ c κs. search needs) returns)

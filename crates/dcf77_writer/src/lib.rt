@@ -1,0 +1,18 @@
+// Writing a DCF77 minute as a run of marks.
+use clock_time::WriteAnswer;
+use dcf77::MinuteTime;
+ghost use mathlib.Core.Path.{_≡_};
+ghost use Rattle.clock_time.specs.Writing.{outcome};
+ghost use Rattle.dcf77.specs.Minute.{writeMinute};
+
+mod writing;
+
+// Writes a minute as a run of marks to the front of `out`: 23 where no run is read as it, 20 where there is no room.
+pub fn write_minute(a: MinuteTime, out: &mut [u8]) -> WriteAnswer
+    ensures { λ r. ⌜ outcome r (now (out .exit)) ≡ writeMinute a (now (out .entry)) ⌝ }
+{
+    let line = writing::line_of(a);
+    let detail = a.detail;
+    let count = 59 + detail.sixty as usize;
+    writing::write_run(a, &line[..count], out)
+}

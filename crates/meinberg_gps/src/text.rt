@@ -86,7 +86,7 @@ pub(crate) fn text_of(g: GpsTime) -> [u8; 66]
     ensures { λ r. ⌜ r ≡ gpsText g ⌝ }
 {
     let t = g.time;
-    let pzf = meinberg_pzf::line_of(t);
+    let pzf = meinberg_pzf_writer::line_of(t);
     let offset = parts::offset_text(t.utc_offset);
     let leap = layout::letter_if(t.second == 60, b'L');
     let position = gps_position::position_text(g.position);

@@ -68,7 +68,7 @@ fn write_time(kind: u8, t: ClockTime, out: &mut [u8]) -> WriteAnswer
         return meinberg_standard::write_standard(t, out);
     }
     if kind == 1 {
-        return meinberg_pzf::write_pzf(t, out);
+        return meinberg_pzf_writer::write_pzf(t, out);
     }
     elv_dcf7000::write_elv(t, out)
 }

@@ -78,7 +78,7 @@ fn put_pzf(out: &mut Buffer, at: usize, s: &[u8]) -> usize {
         ReadAnswer::Read(t) => {
             let n = put_clock(out, at, t);
             let mut back = [0u8; 32];
-            let answer = meinberg_pzf::write_pzf(t, &mut back);
+            let answer = meinberg_pzf_writer::write_pzf(t, &mut back);
             put_back(out, n, s, answer, &back)
         }
         ReadAnswer::Refused(e) => output::put_error(out, at, e),

@@ -17,9 +17,9 @@ fn into_standard(t: ClockTime, space: &mut [u8], room: usize) -> WriteAnswer {
 
 fn into_pzf(t: ClockTime, space: &mut [u8], room: usize) -> WriteAnswer {
     if space.len() < room {
-        return meinberg_pzf::write_pzf(t, space);
+        return meinberg_pzf_writer::write_pzf(t, space);
     }
-    meinberg_pzf::write_pzf(t, &mut space[0..room])
+    meinberg_pzf_writer::write_pzf(t, &mut space[0..room])
 }
 
 fn into_gps(g: GpsTime, space: &mut [u8], room: usize) -> WriteAnswer {

@@ -1,11 +1,11 @@
--- `meinberg_pzf::write_pzf` meets its contract. Assumes nothing.
+-- `meinberg_pzf_writer::write_pzf` meets its contract. Assumes nothing.
 use borrow.Author.Needs.{needs}
 use mathlib.Core.Path.{_∙_}
 use Rattle.layout.proofs.DecideLaws.{clock-writes}
 use Rattle.meinberg_pzf.specs.Pzf.{pzf, writePzf}
 use Rattle.meinberg_pzf.proofs.PzfLaws.{decides}
-use Rattle.meinberg_pzf.proofs.write_pzf.Statement.{statement}
-use Rattle.meinberg_pzf.proofs.write_pzf.Tie as tie
+use Rattle.meinberg_pzf_writer.proofs.write_pzf.Statement.{statement}
+use Rattle.meinberg_pzf_writer.proofs.write_pzf.Tie as tie
 
 returns : tie.Need-returns
 unfolding writePzf pzf

@@ -1,11 +1,11 @@
--- `meinberg_pzf::is_carried` meets its contract. Assumes nothing.
+-- `meinberg_pzf_writer::is_carried` meets its contract. Assumes nothing.
 use borrow.Author.Needs.{needs, sfits-of}
 use mir.Syntax.{w16}
 use mir.Val.{SFits}
 use mir.Facts.{toZ-ofZ}
 use Rattle.meinberg_pzf.specs.Pzf.{pzfCarries}
-use Rattle.meinberg_pzf.proofs.is_carried.Statement.{statement}
-use Rattle.meinberg_pzf.proofs.is_carried.Tie as tie
+use Rattle.meinberg_pzf_writer.proofs.is_carried.Statement.{statement}
+use Rattle.meinberg_pzf_writer.proofs.is_carried.Tie as tie
 
 offset-fits : (c : tie.Start) → SFits w16 (c .args .t .«utc_offset»)
 offset-fits c = search sfits-of

@@ -1,10 +1,10 @@
--- `meinberg_pzf::line_with` meets its contract. Assumes nothing.
+-- `meinberg_pzf_writer::line_with` meets its contract. Assumes nothing.
 use borrow.Author.Needs.{needs}
 use mathlib.Core.Path.{refl}
 use Rattle.decimal.specs.Decimal.{digits}
 use Rattle.layout.specs.Ascii.{ascii}
-use Rattle.meinberg_pzf.proofs.line_with.Statement.{statement}
-use Rattle.meinberg_pzf.proofs.line_with.Tie as tie
+use Rattle.meinberg_pzf_writer.proofs.line_with.Statement.{statement}
+use Rattle.meinberg_pzf_writer.proofs.line_with.Tie as tie
 
 returns : tie.Need-returns
 unfolding digits ascii

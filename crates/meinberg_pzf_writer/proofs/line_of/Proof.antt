@@ -1,13 +1,13 @@
--- `meinberg_pzf::line_of` meets its contract. Assumes nothing.
+-- `meinberg_pzf_writer::line_of` meets its contract. Assumes nothing.
 use borrow.Author.Needs.{needs}
 use mathlib.Core.Path.{_∙_}
 use mir.Syntax.{w16}
 use mir.Val.{SFits}
 use mir.Facts.{toZ-ofZ}
 use borrow.Author.Needs.{sfits-of}
 use Rattle.meinberg_pzf.specs.Pzf.{pzfText}
-use Rattle.meinberg_pzf.proofs.line_of.Statement.{statement}
-use Rattle.meinberg_pzf.proofs.line_of.Tie as tie
+use Rattle.meinberg_pzf_writer.proofs.line_of.Statement.{statement}
+use Rattle.meinberg_pzf_writer.proofs.line_of.Tie as tie
 
 offset-fits : (c : tie.Start) → SFits w16 (c .args .t .«utc_offset»)
 offset-fits c = search sfits-of

@@ -65,12 +65,12 @@ fn write_time(kind: u8, t: ClockTime, out: &mut [u8]) -> WriteAnswer
     ensures { λ r. ⌜ outcome r (now (out .exit)) ≡ writeTime kind t (now (out .entry)) ⌝ }
 {
     if kind == 0 {
-        return meinberg_standard::write_standard(t, out);
+        return meinberg_standard_writer::write_standard(t, out);
     }
     if kind == 1 {
         return meinberg_pzf_writer::write_pzf(t, out);
     }
-    elv_dcf7000::write_elv(t, out)
+    elv_dcf7000_writer::write_elv(t, out)
 }
 
 fn write_plain(kind: u8, fields: &[i32], out: &mut [u8]) -> WriteAnswer

@@ -86,7 +86,7 @@ fn write_gps(fields: &[i32], out: &mut [u8]) -> WriteAnswer
     ensures { λ r. ⌜ outcome r (now (out .exit)) ≡ writeAs Kind.Gps (now (fields .entry)) (now (out .entry)) ⌝ }
 {
     match from_numbers::gps_of(fields) {
-        GpsAnswer::Read(g) => meinberg_gps::write_gps(g, out),
+        GpsAnswer::Read(g) => meinberg_gps_writer::write_gps(g, out),
         GpsAnswer::Refused(e) => WriteAnswer::Refused(e),
     }
 }

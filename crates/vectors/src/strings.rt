@@ -93,7 +93,7 @@ fn put_gps(out: &mut Buffer, at: usize, s: &[u8]) -> usize {
             let mut n = put_clock(out, at, t);
             n = put_position(out, n, p);
             let mut back = [0u8; 66];
-            let answer = meinberg_gps::write_gps(g, &mut back);
+            let answer = meinberg_gps_writer::write_gps(g, &mut back);
             put_back(out, n, s, answer, &back)
         }
         GpsAnswer::Refused(e) => output::put_error(out, at, e),

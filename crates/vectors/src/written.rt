@@ -24,9 +24,9 @@ fn into_pzf(t: ClockTime, space: &mut [u8], room: usize) -> WriteAnswer {
 
 fn into_gps(g: GpsTime, space: &mut [u8], room: usize) -> WriteAnswer {
     if space.len() < room {
-        return meinberg_gps::write_gps(g, space);
+        return meinberg_gps_writer::write_gps(g, space);
     }
-    meinberg_gps::write_gps(g, &mut space[0..room])
+    meinberg_gps_writer::write_gps(g, &mut space[0..room])
 }
 
 fn into_elv(t: ClockTime, space: &mut [u8], room: usize) -> WriteAnswer {

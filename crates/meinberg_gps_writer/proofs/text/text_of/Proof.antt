@@ -1,12 +1,12 @@
--- `meinberg_gps::text::text_of` meets its contract. Assumes nothing.
+-- `meinberg_gps_writer::text::text_of` meets its contract. Assumes nothing.
 use borrow.Author.Needs.{needs, sfits-of}
 use mathlib.Core.Path.{_∙_}
 use mir.Syntax.{w16}
 use mir.Val.{SFits}
 use mir.Facts.{toZ-ofZ}
 use Rattle.meinberg_gps.specs.Gps.{gpsText}
-use Rattle.meinberg_gps.proofs.text.text_of.Statement.{statement}
-use Rattle.meinberg_gps.proofs.text.text_of.Tie as tie
+use Rattle.meinberg_gps_writer.proofs.text.text_of.Statement.{statement}
+use Rattle.meinberg_gps_writer.proofs.text.text_of.Tie as tie
 
 offset-fits : (c : tie.Start) → SFits w16 (c .args .g .time .«utc_offset»)
 offset-fits c = search sfits-of

@@ -1,9 +1,9 @@
--- `meinberg_gps::write_gps` meets its contract. Assumes nothing.
+-- `meinberg_gps_writer::write_gps` meets its contract. Assumes nothing.
 use borrow.Author.Needs.{needs}
 use mathlib.Core.Path.{_∙_}
 use Rattle.meinberg_gps.proofs.GpsLaws.{writes}
-use Rattle.meinberg_gps.proofs.write_gps.Statement.{statement}
-use Rattle.meinberg_gps.proofs.write_gps.Tie as tie
+use Rattle.meinberg_gps_writer.proofs.write_gps.Statement.{statement}
+use Rattle.meinberg_gps_writer.proofs.write_gps.Tie as tie
 
 returns : tie.Need-returns
 returns c =

@@ -1,10 +1,10 @@
 // The bytes of a whole GPS string.
-use crate::GpsTime;
 use crate::parts;
 use crate::parts::OffsetText;
 use gps_position::PositionText;
+use meinberg_gps::GpsTime;
 ghost use mathlib.Core.Path.{_≡_};
 ghost use Rattle.meinberg_gps.specs.Gps.{lineOf, gpsText};
 
 // The layout with the bytes of its parts in it: a PZF string's date, time and flags, an offset, the letter for second
 // 60 and a position.

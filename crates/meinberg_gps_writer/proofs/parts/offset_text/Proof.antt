@@ -1,13 +1,13 @@
--- `meinberg_gps::parts::offset_text` meets its contract. Assumes nothing.
+-- `meinberg_gps_writer::parts::offset_text` meets its contract. Assumes nothing.
 use borrow.Author.Needs.{needs}
 use mir.Syntax.{w32}
 use mir.Facts.{toZ-ofZ, sfits-widen}
 use Rattle.calendar.proofs.SignedLaws.{widened}
 use Rattle.decimal.specs.Decimal.{digits}
 use Rattle.layout.specs.Ascii.{ascii}
 use Rattle.meinberg_gps.specs.Gps.{offsetText}
-use Rattle.meinberg_gps.proofs.parts.offset_text.Statement.{statement}
-use Rattle.meinberg_gps.proofs.parts.offset_text.Tie as tie
+use Rattle.meinberg_gps_writer.proofs.parts.offset_text.Statement.{statement}
+use Rattle.meinberg_gps_writer.proofs.parts.offset_text.Tie as tie
 
 cast-size : tie.Need-cast-size
 cast-size c = rw (toZ-ofZ (c .fits .offset)) (sfits-widen tt (c .fits .offset))

@@ -1,10 +1,10 @@
--- `meinberg_gps::text::line_with` meets its contract. Assumes nothing.
+-- `meinberg_gps_writer::text::line_with` meets its contract. Assumes nothing.
 use mathlib.Core.Path.{refl}
 use lib.Dec.{lit<}
 use Rattle.layout.specs.Ascii.{ascii}
 use Rattle.meinberg_gps.specs.Gps.{lineOf}
-use Rattle.meinberg_gps.proofs.text.line_with.Statement.{statement}
-use Rattle.meinberg_gps.proofs.text.line_with.Tie as tie
+use Rattle.meinberg_gps_writer.proofs.text.line_with.Statement.{statement}
+use Rattle.meinberg_gps_writer.proofs.text.line_with.Tie as tie
 
 returns : tie.Need-returns
 unfolding lineOf ascii

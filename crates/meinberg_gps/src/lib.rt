@@ -4,7 +4,6 @@ use clock_time::Error;
 use clock_time::Position;
 use gps_position::PositionAnswer;
 use layout::ReadAnswer;
-use layout::words;
 ghost use mathlib.Core.Path.{_≡_};
 ghost use lib.ListN.{length};
 ghost use Rattle.layout.specs.Layout.{FitsLayout};
@@ -30,8 +29,8 @@ fn clock(s: &[u8]) -> ClockTime
     requires { ⌜ (length (now s) ≡ 66) × FitsLayout gpsLayout (now s) ⌝ }
     ensures { λ r. ⌜ r ≡ clockOf (now (s .entry)) ⌝ }
 {
-    let date = words::numbers_at(s, 1);
-    let time = words::numbers_at(s, 14);
+    let date = byte_words::numbers_at(s, 1);
+    let time = byte_words::numbers_at(s, 14);
     ClockTime {
         year: calendar::date::full_year(date.third),
         month: date.second,
@@ -55,7 +54,7 @@ fn mismatch(s: &[u8]) -> bool
     requires { ⌜ (length (now s) ≡ 66) × FitsLayout gpsLayout (now s) ⌝ }
     ensures { λ r. ⌜ r ≡ leapMismatch (now (s .entry)) ⌝ }
 {
-    let time = words::numbers_at(s, 14);
+    let time = byte_words::numbers_at(s, 14);
     (s[38] == b'L') != (time.third == 60)
 }
 

@@ -2,7 +2,6 @@
 use clock_time::ClockTime;
 use clock_time::Error;
 use layout::ReadAnswer;
-use layout::words;
 ghost use mathlib.Core.Path.{_≡_};
 ghost use mathlib.Core.Bool.{true};
 ghost use lib.ListN.{length};
@@ -68,10 +67,10 @@ fn fits(s: &[u8]) -> bool
     requires { ⌜ length (now s) ≡ 32 ⌝ }
     ensures { λ r. ⌜ r ≡ fitsFrom true 0 pzfLayout (now (s .entry)) ⌝ }
 {
-    words::eight_fit(s, 0, 2, b'0', b'0', b'.', b'0', b'0', b'.', b'0')
-        & words::eight_fit(s, 8, b'0', b';', b' ', b'0', b';', b' ', b'0', b'0')
-        & words::eight_fit(s, 16, b':', b'0', b'0', b':', b'0', b'0', b';', b' ')
-        & words::flags_fit(s, 24, b'U', b'#', b'*', b'S', b'!', b'A', b'R', 3)
+    byte_words::eight_fit(s, 0, 2, b'0', b'0', b'.', b'0', b'0', b'.', b'0')
+        & byte_words::eight_fit(s, 8, b'0', b';', b' ', b'0', b';', b' ', b'0', b'0')
+        & byte_words::eight_fit(s, 16, b':', b'0', b'0', b':', b'0', b'0', b';', b' ')
+        & byte_words::flags_fit(s, 24, b'U', b'#', b'*', b'S', b'!', b'A', b'R', 3)
 }
 
 // The error of a string that does not fit.
@@ -98,8 +97,8 @@ fn fields(s: &[u8]) -> ClockTime
     requires { ⌜ (length (now s) ≡ 32) × FitsLayout pzfLayout (now s) ⌝ }
     ensures { λ r. ⌜ r ≡ pzfFields (now (s .entry)) ⌝ }
 {
-    let date = words::numbers_at(s, 1);
-    let time = words::numbers_at(s, 14);
+    let date = byte_words::numbers_at(s, 1);
+    let time = byte_words::numbers_at(s, 14);
     let utc = s[24] == b'U';
     let summer = s[27] == b'S';
     ClockTime {

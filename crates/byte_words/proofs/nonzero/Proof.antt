@@ -1,11 +1,11 @@
--- `layout::words::nonzero` meets its contract. Assumes nothing.
+-- `byte_words::nonzero` meets its contract. Assumes nothing.
 use borrow.Author.Needs.{needs}
 use native.Mathlib.Omega.{arith}
 use lib.Bits.{and-le-r}
 use Rattle.layout.specs.Words.{word}
 use Rattle.layout.proofs.FlagLaws.{nonzero-word}
-use Rattle.layout.proofs.words.nonzero.Statement.{statement}
-use Rattle.layout.proofs.words.nonzero.Tie as tie
+use Rattle.byte_words.proofs.nonzero.Statement.{statement}
+use Rattle.byte_words.proofs.nonzero.Tie as tie
 
 add-result : tie.Need-add-result
 unfolding word

@@ -1,8 +1,8 @@
--- `layout::words::join_by_sample` meets its contract. Assumes nothing.
+-- `byte_words::join_by_sample` meets its contract. Assumes nothing.
 use borrow.Author.Needs.{needs}
 use mathlib.Core.Path.{_∙_}
-use Rattle.layout.proofs.words.join_by_sample.Statement.{statement}
-use Rattle.layout.proofs.words.join_by_sample.Tie as tie
+use Rattle.byte_words.proofs.join_by_sample.Statement.{statement}
+use Rattle.byte_words.proofs.join_by_sample.Tie as tie
 
 returns : tie.Need-returns
 returns c =

@@ -1,13 +1,13 @@
--- `layout::words::numbers_at` meets its contract. Assumes nothing.
+-- `byte_words::numbers_at` meets its contract. Assumes nothing.
 use borrow.Author.Needs.{needs}
 use native.Mathlib.Omega.{arith}
 use denote.Ref.{now}
 use lib.Bits.{bitAnd}
 use Rattle.layout.specs.Words.{enough, threeNumbers, numbersAt}
 use Rattle.layout.proofs.WordLaws.{bytes-enough}
 use Rattle.layout.proofs.PairLaws.{Pairs, pairs-of}
-use Rattle.layout.proofs.words.numbers_at.Statement.{statement}
-use Rattle.layout.proofs.words.numbers_at.Tie as tie
+use Rattle.byte_words.proofs.numbers_at.Statement.{statement}
+use Rattle.byte_words.proofs.numbers_at.Tie as tie
 
 pairs : (c : tie.After-join) → Pairs (bitAnd (c .before .word-at .result) (c .join .result))
     (c .before .before .before .args .at)

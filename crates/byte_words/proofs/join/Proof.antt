@@ -1,9 +1,9 @@
--- `layout::words::join` meets its contract. Assumes nothing.
+-- `byte_words::join` meets its contract. Assumes nothing.
 use borrow.Author.Needs.{needs}
 use native.Mathlib.Omega.{arith}
 use Rattle.layout.specs.Words.{word}
-use Rattle.layout.proofs.words.join.Statement.{statement}
-use Rattle.layout.proofs.words.join.Tie as tie
+use Rattle.byte_words.proofs.join.Statement.{statement}
+use Rattle.byte_words.proofs.join.Tie as tie
 
 returns : tie.Need-returns
 unfolding word

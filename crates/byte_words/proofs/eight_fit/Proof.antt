@@ -1,14 +1,14 @@
--- `layout::words::eight_fit` meets its contract. Assumes nothing.
+-- `byte_words::eight_fit` meets its contract. Assumes nothing.
 use borrow.Author.Needs.{needs}
 use native.Mathlib.Omega.{arith}
 use Prim.Native.Nat.{ℕ}
 use mathlib.Core.List.{List, [], _∷_}
 use denote.Ref.{now}
 use Rattle.layout.specs.Words.{enough, sampleFits}
 use Rattle.layout.proofs.WordLaws.{Bytes, bytes-of, bytes-enough}
 use Rattle.layout.proofs.SampleLaws.{test-word}
-use Rattle.layout.proofs.words.eight_fit.Statement.{statement}
-use Rattle.layout.proofs.words.eight_fit.Tie as tie
+use Rattle.byte_words.proofs.eight_fit.Statement.{statement}
+use Rattle.byte_words.proofs.eight_fit.Tie as tie
 
 abbrev sample : tie.Start → List ℕ
 sample c = let x = c .args in x .a ∷ x .b ∷ x .c ∷ x .d ∷ x .e ∷ x .f ∷ x .g ∷ x .h ∷ []

@@ -1,8 +1,8 @@
--- `layout::words::by_sample` meets its contract. Assumes nothing.
+-- `byte_words::by_sample` meets its contract. Assumes nothing.
 use Rattle.clock_time.proofs.Tests.{tests}
 use Rattle.layout.specs.Words.{bySample}
-use Rattle.layout.proofs.words.by_sample.Statement.{statement}
-use Rattle.layout.proofs.words.by_sample.Tie as tie
+use Rattle.byte_words.proofs.by_sample.Statement.{statement}
+use Rattle.byte_words.proofs.by_sample.Tie as tie
 
 returns : tie.Need-returns
 unfolding bySample

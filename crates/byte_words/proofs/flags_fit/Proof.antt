@@ -1,14 +1,14 @@
--- `layout::words::flags_fit` meets its contract. Assumes nothing.
+-- `byte_words::flags_fit` meets its contract. Assumes nothing.
 use borrow.Author.Needs.{needs}
 use native.Mathlib.Omega.{arith}
 use Prim.Native.Nat.{ℕ}
 use mathlib.Core.List.{List, [], _∷_}
 use denote.Ref.{now}
 use Rattle.layout.specs.Words.{enough, flagsFit}
 use Rattle.layout.proofs.WordLaws.{Bytes, bytes-of, bytes-enough}
 use Rattle.layout.proofs.FlagLaws.{flag-word}
-use Rattle.layout.proofs.words.flags_fit.Statement.{statement}
-use Rattle.layout.proofs.words.flags_fit.Tie as tie
+use Rattle.byte_words.proofs.flags_fit.Statement.{statement}
+use Rattle.byte_words.proofs.flags_fit.Tie as tie
 
 abbrev letters : tie.Start → List ℕ
 letters c = let x = c .args in x .a ∷ x .b ∷ x .c ∷ x .d ∷ x .e ∷ x .f ∷ x .g ∷ []

@@ -1,13 +1,13 @@
--- `layout::words::word_at` meets its contract. Assumes nothing.
+-- `byte_words::word_at` meets its contract. Assumes nothing.
 use borrow.Author.Needs.{needs}
 use native.Mathlib.Omega.{arith}
 use denote.Ref.{now}
 use Prim.Native.Nat.{_+_, _≤_, _<_}
 use lib.ListN.{length}
 use Rattle.layout.specs.Words.{word}
 use Rattle.layout.proofs.WordLaws.{no-bytes, enough-bytes, run-eight}
-use Rattle.layout.proofs.words.word_at.Statement.{statement}
-use Rattle.layout.proofs.words.word_at.Tie as tie
+use Rattle.byte_words.proofs.word_at.Statement.{statement}
+use Rattle.byte_words.proofs.word_at.Tie as tie
 
 returns : tie.Need-returns
 unfolding word

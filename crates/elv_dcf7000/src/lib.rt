@@ -1,18 +1,14 @@
 // The string of an ELV DCF7000 clock.
 use clock_time::ClockTime;
 use clock_time::Error;
-use clock_time::WriteAnswer;
 use layout::ReadAnswer;
-use layout::words;
 ghost use mathlib.Core.Path.{_≡_};
 ghost use mathlib.Core.Bool.{true, false};
 ghost use lib.ListN.{length};
-ghost use Rattle.clock_time.specs.Writing.{outcome};
 ghost use Rattle.clock_time.specs.Errors.{errorNumber};
 ghost use Rattle.layout.specs.Layout.{FitsLayout, fitsFrom, layoutError};
 ghost use Rattle.layout.specs.Text.{readAnswer};
 ghost use Rattle.elv_dcf7000.specs.Elv.{elvLayout, elvFlagFault, elvOffset, sentFields, withWeekday, readElv};
-ghost use Rattle.elv_dcf7000.specs.Elv.{flagSum, lineOf, elvText, elvCarries, writeElv};
 
 // The layout, as the definition `elvLayout` has it.
 const D: u32 = 256;
@@ -46,9 +42,9 @@ fn fits(s: &[u8]) -> bool
     requires { ⌜ length (now s) ≡ 21 ⌝ }
     ensures { λ r. ⌜ r ≡ fitsFrom true 0 elvLayout (now (s .entry)) ⌝ }
 {
-    words::eight_fit(s, 0, b'0', b'0', b'-', b'0', b'0', b'-', b'0', b'0')
-        & words::eight_fit(s, 8, b'-', b'0', b'0', b'-', b'0', b'0', b'-', b'0')
-        & words::eight_fit(s, 13, 0, 0, 0, b'0', b'-', b'0', b'0', 13)
+    byte_words::eight_fit(s, 0, b'0', b'0', b'-', b'0', b'0', b'-', b'0', b'0')
+        & byte_words::eight_fit(s, 8, b'-', b'0', b'0', b'-', b'0', b'0', b'-', b'0')
+        & byte_words::eight_fit(s, 13, 0, 0, 0, b'0', b'-', b'0', b'0', 13)
 }
 
 // The error of a string that does not fit.
@@ -58,7 +54,8 @@ fn first_error(s: &[u8]) -> Error
     layout::layout_error(&ELV, s)
 }
 
-fn offset_of(summer: bool) -> i16
+// The UTC offset with and without summer time.
+pub fn offset_of(summer: bool) -> i16
     ensures { λ r. ⌜ r ≡ elvOffset summer ⌝ }
 {
     if summer { 120 } else { 60 }
@@ -77,8 +74,8 @@ fn sent_fields(s: &[u8]) -> ClockTime
     requires { ⌜ (length (now s) ≡ 21) × (FitsLayout elvLayout (now s) × (elvFlagFault (now s) ≡ false)) ⌝ }
     ensures { λ r. ⌜ r ≡ sentFields (now (s .entry)) ⌝ }
 {
-    let date = words::numbers_at(s, 0);
-    let time = words::numbers_at(s, 9);
+    let date = byte_words::numbers_at(s, 0);
+    let time = byte_words::numbers_at(s, 9);
     let flags = s[19] % 16;
     let summer = flags % 2 == 1;
     ClockTime {
@@ -146,65 +143,4 @@ pub fn read_elv(s: &[u8]) -> ReadAnswer
         return read_fitting(s);
     }
     ReadAnswer::Refused(first_error(&s[..]))
-}
-
-fn flag_sum(summer: bool, change: bool, unsynchronised: bool) -> u8
-    ensures { λ r. ⌜ r ≡ flagSum summer change unsynchronised ⌝ }
-{
-    summer as u8 + 2 * (change as u8) + 4 * (unsynchronised as u8)
-}
-
-// The layout with the fields of `t` and the number of its flags in it.
-fn line_with(t: ClockTime, flags: u8) -> [u8; 21]
-    ensures { λ r. ⌜ r ≡ lineOf t flags ⌝ }
-{
-    [
-        (48 + t.year / 10 % 10) as u8,
-        (48 + t.year % 10) as u8,
-        b'-',
-        48 + t.month / 10 % 10,
-        48 + t.month % 10,
-        b'-',
-        48 + t.day / 10 % 10,
-        48 + t.day % 10,
-        b'-',
-        48 + t.hour / 10 % 10,
-        48 + t.hour % 10,
-        b'-',
-        48 + t.minute / 10 % 10,
-        48 + t.minute % 10,
-        b'-',
-        48 + t.second / 10 % 10,
-        48 + t.second % 10,
-        b'-',
-        48 + flags / 10 % 10,
-        48 + flags % 10,
-        13,
-    ]
-}
-
-fn line_of(t: ClockTime) -> [u8; 21]
-    ensures { λ r. ⌜ r ≡ elvText t ⌝ }
-{
-    let flags = flag_sum(t.summer_time, t.dst_change_announced, t.unsynchronised);
-    line_with(t, flags)
-}
-
-// Whether an ELV string can say what `t` says.
-fn is_carried(t: ClockTime) -> bool
-    ensures { λ r. ⌜ r ≡ elvCarries t ⌝ }
-{
-    let zone = clock_time::same_offset(offset_of(t.summer_time), t.utc_offset);
-    let weekday = calendar::date::weekday_number(t.year, t.month, t.day);
-    zone & (weekday == t.weekday) & !t.unverified & !t.leap_second_announced & !t.alternate_antenna
-}
-
-// Writes a clock time as an ELV DCF7000 string to the front of `out`: 23 where no such string is read as it, 20 where
-// there is no room for 21 bytes.
-pub fn write_elv(t: ClockTime, out: &mut [u8]) -> WriteAnswer
-    ensures { λ r. ⌜ outcome r (now (out .exit)) ≡ writeElv t (now (out .entry)) ⌝ }
-{
-    let line = line_of(t);
-    let readable = calendar::unix_time::is_valid(t) & is_carried(t);
-    clock_time::write_bytes(readable, &line, out)
 }

@@ -28,7 +28,7 @@ fn flags_text(t: ClockTime) -> [u8; 7]
 pub fn line_of(t: ClockTime) -> [u8; 35]
     ensures { λ r. ⌜ r ≡ lineOf t ⌝ }
 {
-    let zone = meinberg_gps::parts::offset_text(t.utc_offset);
+    let zone = meinberg_gps_writer::parts::offset_text(t.utc_offset);
     let flags = flags_text(t);
     [
         (48 + t.year / 10 / 10 / 10 % 10) as u8,

@@ -2,22 +2,16 @@
 use clock_time::ClockTime;
 use clock_time::Error;
 use clock_time::Position;
-use clock_time::WriteAnswer;
 use gps_position::PositionAnswer;
 use layout::ReadAnswer;
-use layout::words;
 ghost use mathlib.Core.Path.{_≡_};
 ghost use lib.ListN.{length};
-ghost use Rattle.clock_time.specs.Writing.{outcome};
 ghost use Rattle.layout.specs.Layout.{FitsLayout};
 ghost use Rattle.meinberg_gps.specs.Gps.{gpsLayout, leapMismatch, clockOf, readClock, readGps, gpsAnswer};
-ghost use Rattle.meinberg_gps.specs.Gps.{writeGps};
 
 mod offset;
-pub mod parts;
 mod places;
 mod table;
-mod text;
 
 // What a GPS string says: a clock time and the clock's position.
 pub struct GpsTime {
@@ -35,8 +29,8 @@ fn clock(s: &[u8]) -> ClockTime
     requires { ⌜ (length (now s) ≡ 66) × FitsLayout gpsLayout (now s) ⌝ }
     ensures { λ r. ⌜ r ≡ clockOf (now (s .entry)) ⌝ }
 {
-    let date = words::numbers_at(s, 1);
-    let time = words::numbers_at(s, 14);
+    let date = byte_words::numbers_at(s, 1);
+    let time = byte_words::numbers_at(s, 14);
     ClockTime {
         year: calendar::date::full_year(date.third),
         month: date.second,
@@ -60,7 +54,7 @@ fn mismatch(s: &[u8]) -> bool
     requires { ⌜ (length (now s) ≡ 66) × FitsLayout gpsLayout (now s) ⌝ }
     ensures { λ r. ⌜ r ≡ leapMismatch (now (s .entry)) ⌝ }
 {
-    let time = words::numbers_at(s, 14);
+    let time = byte_words::numbers_at(s, 14);
     (s[38] == b'L') != (time.third == 60)
 }
 
@@ -104,14 +98,4 @@ pub fn read_gps(s: &[u8]) -> GpsAnswer
         return read_fitting(s);
     }
     GpsAnswer::Refused(table::first_error(&s[..]))
-}
-
-// Writes a clock time and a position as a Meinberg GPS string to the front of `out`: 23 where no such string is read as
-// them, 20 where there is no room for 66 bytes.
-pub fn write_gps(g: GpsTime, out: &mut [u8]) -> WriteAnswer
-    ensures { λ r. ⌜ outcome r (now (out .exit)) ≡ writeGps g (now (out .entry)) ⌝ }
-{
-    let line = text::text_of(g);
-    let readable = calendar::unix_time::is_valid(g.time) & gps_position::is_carried(g.position);
-    clock_time::write_bytes(readable, &line, out)
 }

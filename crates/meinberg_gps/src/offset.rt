@@ -1,5 +1,4 @@
 // The UTC offset of a GPS string.
-use layout::words;
 ghost use mathlib.Core.Path.{_≡_};
 ghost use lib.ListN.{length};
 ghost use Rattle.layout.specs.Layout.{FitsLayout};
@@ -9,7 +8,7 @@ fn size(s: &[u8]) -> u32
     requires { ⌜ (length (now s) ≡ 66) × FitsLayout gpsLayout (now s) ⌝ }
     ensures { λ r. ⌜ r ≡ offsetSize (now (s .entry)) ⌝ }
 {
-    let numbers = words::numbers_at(s, 25);
+    let numbers = byte_words::numbers_at(s, 25);
     60 * (numbers.first as u32) + numbers.second as u32
 }
 
@@ -18,7 +17,7 @@ pub(crate) fn is_faulty(s: &[u8]) -> bool
     requires { ⌜ (length (now s) ≡ 66) × FitsLayout gpsLayout (now s) ⌝ }
     ensures { λ r. ⌜ r ≡ offsetFault (now (s .entry)) ⌝ }
 {
-    let numbers = words::numbers_at(s, 25);
+    let numbers = byte_words::numbers_at(s, 25);
     !((numbers.second <= 59) & signed::sign_holds(b'+', b'-', 840, s[24], size(s)))
 }
 

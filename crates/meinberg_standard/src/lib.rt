@@ -1,9 +1,7 @@
 // The Meinberg standard string.
 use clock_time::ClockTime;
 use clock_time::Error;
-use clock_time::WriteAnswer;
 use layout::ReadAnswer;
-use layout::words;
 ghost use mathlib.Core.Path.{_≡_};
 ghost use mathlib.Core.Bool.{true};
 ghost use lib.ListN.{length};
@@ -11,9 +9,6 @@ ghost use Rattle.clock_time.specs.Errors.{errorNumber};
 ghost use Rattle.layout.specs.Layout.{FitsLayout, fitsFrom, layoutError};
 ghost use Rattle.layout.specs.Text.{readAnswer};
 ghost use Rattle.meinberg_standard.specs.Standard.{standardLayout, standardZone, standardFields, readStandard};
-ghost use Rattle.meinberg_standard.specs.Standard.{zoneLetter, announcedLetter, lineOf, standardText};
-ghost use Rattle.meinberg_standard.specs.Standard.{standardCarries, writeStandard};
-ghost use Rattle.clock_time.specs.Writing.{outcome};
 
 // The layout, as the definition `standardLayout` has it.
 const D: u32 = 256;
@@ -66,9 +61,9 @@ fn fits(s: &[u8]) -> bool
     requires { ⌜ length (now s) ≡ 32 ⌝ }
     ensures { λ r. ⌜ r ≡ fitsFrom true 0 standardLayout (now (s .entry)) ⌝ }
 {
-    words::eight_fit(s, 0, 2, b'D', b':', b'0', b'0', b'.', b'0', b'0')
-        & words::eight_fit(s, 8, b'.', b'0', b'0', b';', b'T', b':', b'0', b';')
-        & words::eight_fit(s, 16, b'U', b':', b'0', b'0', b'.', b'0', b'0', b'.')
+    byte_words::eight_fit(s, 0, 2, b'D', b':', b'0', b'0', b'.', b'0', b'0')
+        & byte_words::eight_fit(s, 8, b'.', b'0', b'0', b';', b'T', b':', b'0', b';')
+        & byte_words::eight_fit(s, 16, b'U', b':', b'0', b'0', b'.', b'0', b'0', b'.')
         & ((48 <= s[24]) & (s[24] <= 57))
         & ((48 <= s[25]) & (s[25] <= 57))
         & (s[26] == b';')
@@ -87,7 +82,7 @@ fn first_error(s: &[u8]) -> Error
 }
 
 // The UTC offset that the zone letter stands for.
-fn zone_offset(letter: u8) -> i16
+pub fn zone_offset(letter: u8) -> i16
     ensures { λ r. ⌜ r ≡ standardZone letter ⌝ }
 {
     if letter == b'U' {
@@ -103,8 +98,8 @@ fn fields(s: &[u8]) -> ClockTime
     requires { ⌜ (length (now s) ≡ 32) × FitsLayout standardLayout (now s) ⌝ }
     ensures { λ r. ⌜ r ≡ standardFields (now (s .entry)) ⌝ }
 {
-    let date = words::numbers_at(s, 3);
-    let time = words::numbers_at(s, 18);
+    let date = byte_words::numbers_at(s, 3);
+    let time = byte_words::numbers_at(s, 18);
     let zone = s[29];
     let announced = s[30];
     ClockTime {
@@ -136,95 +131,4 @@ pub fn read_standard(s: &[u8]) -> ReadAnswer
         return layout::check_clock(fields(s), false);
     }
     ReadAnswer::Refused(first_error(&s[..]))
-}
-
-fn zone_letter(offset: i16, summer: bool) -> u8
-    ensures { λ r. ⌜ r ≡ zoneLetter offset summer ⌝ }
-{
-    if summer {
-        return b'S';
-    }
-    if offset == 0 {
-        return b'U';
-    }
-    b' '
-}
-
-fn announced_letter(change: bool, leap: bool) -> u8
-    ensures { λ r. ⌜ r ≡ announcedLetter change leap ⌝ }
-{
-    if change {
-        return b'!';
-    }
-    layout::letter_if(leap, b'A')
-}
-
-// The layout with the fields of `t` and the four flag letters in it.
-fn line_with(t: ClockTime, u: u8, v: u8, x: u8, y: u8) -> [u8; 32]
-    ensures { λ r. ⌜ r ≡ lineOf t u v x y ⌝ }
-{
-    [
-        2,
-        b'D',
-        b':',
-        48 + t.day / 10 % 10,
-        48 + t.day % 10,
-        b'.',
-        48 + t.month / 10 % 10,
-        48 + t.month % 10,
-        b'.',
-        (48 + t.year / 10 % 10) as u8,
-        (48 + t.year % 10) as u8,
-        b';',
-        b'T',
-        b':',
-        48 + t.weekday % 10,
-        b';',
-        b'U',
-        b':',
-        48 + t.hour / 10 % 10,
-        48 + t.hour % 10,
-        b'.',
-        48 + t.minute / 10 % 10,
-        48 + t.minute % 10,
-        b'.',
-        48 + t.second / 10 % 10,
-        48 + t.second % 10,
-        b';',
-        u,
-        v,
-        x,
-        y,
-        3,
-    ]
-}
-
-fn line_of(t: ClockTime) -> [u8; 32]
-    ensures { λ r. ⌜ r ≡ standardText t ⌝ }
-{
-    let u = layout::letter_if(t.unsynchronised, b'#');
-    let v = layout::letter_if(t.unverified, b'*');
-    let x = zone_letter(t.utc_offset, t.summer_time);
-    let y = announced_letter(t.dst_change_announced, t.leap_second_announced);
-    line_with(t, u, v, x, y)
-}
-
-// Whether the letters of a standard string can say what `t` says.
-fn is_carried(t: ClockTime) -> bool
-    ensures { λ r. ⌜ r ≡ standardCarries t ⌝ }
-{
-    let zone = zone_offset(zone_letter(t.utc_offset, t.summer_time));
-    clock_time::same_offset(zone, t.utc_offset)
-        & !(t.dst_change_announced & t.leap_second_announced)
-        & !t.alternate_antenna
-}
-
-// Writes a clock time as a Meinberg standard string to the front of `out`: 23 where no such string is read as it, 20
-// where there is no room for 32 bytes.
-pub fn write_standard(t: ClockTime, out: &mut [u8]) -> WriteAnswer
-    ensures { λ r. ⌜ outcome r (now (out .exit)) ≡ writeStandard t (now (out .entry)) ⌝ }
-{
-    let line = line_of(t);
-    let readable = calendar::unix_time::is_valid(t) & is_carried(t);
-    clock_time::write_bytes(readable, &line, out)
 }

@@ -63,12 +63,12 @@ fn write_time(kind: u8, t: ClockTime, out: &mut [u8]) -> WriteAnswer
     ensures { λ r. ⌜ outcome r (now (out .exit)) ≡ writeTime kind t (now (out .entry)) ⌝ }
 {
     if kind == 0 {
-        return meinberg_standard::write_standard(t, out);
+        return meinberg_standard_writer::write_standard(t, out);
     }
     if kind == 1 {
-        return meinberg_pzf::write_pzf(t, out);
+        return meinberg_pzf_writer::write_pzf(t, out);
     }
-    elv_dcf7000::write_elv(t, out)
+    elv_dcf7000_writer::write_elv(t, out)
 }
 
 fn write_plain(kind: u8, fields: &[i32], out: &mut [u8]) -> WriteAnswer
@@ -84,7 +84,7 @@ fn write_gps(fields: &[i32], out: &mut [u8]) -> WriteAnswer
     ensures { λ r. ⌜ outcome r (now (out .exit)) ≡ writeAs Kind.Gps (now (fields .entry)) (now (out .entry)) ⌝ }
 {
     match clock_fields::gps_of(fields) {
-        GpsAnswer::Read(g) => meinberg_gps::write_gps(g, out),
+        GpsAnswer::Read(g) => meinberg_gps_writer::write_gps(g, out),
         GpsAnswer::Refused(e) => WriteAnswer::Refused(e),
     }
 }

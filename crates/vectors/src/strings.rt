@@ -66,7 +66,7 @@ fn put_standard(out: &mut Buffer, at: usize, s: &[u8]) -> usize {
         ReadAnswer::Read(t) => {
             let n = put_clock(out, at, t);
             let mut back = [0u8; 32];
-            let answer = meinberg_standard::write_standard(t, &mut back);
+            let answer = meinberg_standard_writer::write_standard(t, &mut back);
             put_back(out, n, s, answer, &back)
         }
         ReadAnswer::Refused(e) => output::put_error(out, at, e),
@@ -78,7 +78,7 @@ fn put_pzf(out: &mut Buffer, at: usize, s: &[u8]) -> usize {
         ReadAnswer::Read(t) => {
             let n = put_clock(out, at, t);
             let mut back = [0u8; 32];
-            let answer = meinberg_pzf::write_pzf(t, &mut back);
+            let answer = meinberg_pzf_writer::write_pzf(t, &mut back);
             put_back(out, n, s, answer, &back)
         }
         ReadAnswer::Refused(e) => output::put_error(out, at, e),
@@ -93,7 +93,7 @@ fn put_gps(out: &mut Buffer, at: usize, s: &[u8]) -> usize {
             let mut n = put_clock(out, at, t);
             n = put_position(out, n, p);
             let mut back = [0u8; 66];
-            let answer = meinberg_gps::write_gps(g, &mut back);
+            let answer = meinberg_gps_writer::write_gps(g, &mut back);
             put_back(out, n, s, answer, &back)
         }
         GpsAnswer::Refused(e) => output::put_error(out, at, e),
@@ -105,7 +105,7 @@ fn put_elv(out: &mut Buffer, at: usize, s: &[u8]) -> usize {
         ReadAnswer::Read(t) => {
             let n = put_clock(out, at, t);
             let mut back = [0u8; 21];
-            let answer = elv_dcf7000::write_elv(t, &mut back);
+            let answer = elv_dcf7000_writer::write_elv(t, &mut back);
             put_back(out, n, s, answer, &back)
         }
         ReadAnswer::Refused(e) => output::put_error(out, at, e),

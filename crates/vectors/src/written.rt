@@ -10,30 +10,30 @@ use meinberg_gps::GpsTime;
 
 fn into_standard(t: ClockTime, space: &mut [u8], room: usize) -> WriteAnswer {
     if space.len() < room {
-        return meinberg_standard::write_standard(t, space);
+        return meinberg_standard_writer::write_standard(t, space);
     }
-    meinberg_standard::write_standard(t, &mut space[0..room])
+    meinberg_standard_writer::write_standard(t, &mut space[0..room])
 }
 
 fn into_pzf(t: ClockTime, space: &mut [u8], room: usize) -> WriteAnswer {
     if space.len() < room {
-        return meinberg_pzf::write_pzf(t, space);
+        return meinberg_pzf_writer::write_pzf(t, space);
     }
-    meinberg_pzf::write_pzf(t, &mut space[0..room])
+    meinberg_pzf_writer::write_pzf(t, &mut space[0..room])
 }
 
 fn into_gps(g: GpsTime, space: &mut [u8], room: usize) -> WriteAnswer {
     if space.len() < room {
-        return meinberg_gps::write_gps(g, space);
+        return meinberg_gps_writer::write_gps(g, space);
     }
-    meinberg_gps::write_gps(g, &mut space[0..room])
+    meinberg_gps_writer::write_gps(g, &mut space[0..room])
 }
 
 fn into_elv(t: ClockTime, space: &mut [u8], room: usize) -> WriteAnswer {
     if space.len() < room {
-        return elv_dcf7000::write_elv(t, space);
+        return elv_dcf7000_writer::write_elv(t, space);
     }
-    elv_dcf7000::write_elv(t, &mut space[0..room])
+    elv_dcf7000_writer::write_elv(t, &mut space[0..room])
 }
 
 fn standard(line: &[u8], out: &mut Buffer, n: usize) -> usize {

@@ -1,0 +1,56 @@
+-- `byte_words::word_at` meets its contract. Assumes nothing.
+use borrow.Author.Needs.{needs}
+use native.Mathlib.Omega.{arith}
+use denote.Ref.{now}
+use Prim.Native.Nat.{_+_, _≤_, _<_}
+use lib.ListN.{length}
+use Rattle.layout.specs.Words.{word}
+use Rattle.layout.proofs.WordLaws.{no-bytes, enough-bytes, run-eight}
+use Rattle.byte_words.proofs.word_at.Statement.{statement}
+use Rattle.byte_words.proofs.word_at.Tie as tie
+
+returns : tie.Need-returns
+unfolding word
+returns c =
+    let a = c .before .before .args in
+    let few : length (now (a .s)) < a .at + 8 = omega arith in
+    rw (no-bytes (a .at) (now (a .s)) few)
+
+returns-2 : tie.Need-returns-2
+unfolding word
+returns-2 c =
+    let a = c .before .before .before .args in
+    let few : length (now (a .s)) < a .at + 8 = omega arith in
+    rw (no-bytes (a .at) (now (a .s)) few)
+
+returns-3 : tie.Need-returns-3
+returns-3 c =
+    let b = c .before .before .before .before .before .before .before .before .before in
+    let a = b .before .before .before .args in
+    let eight : a .at + 8 ≤ length (now (a .s)) = omega arith in
+    rw (enough-bytes (a .at) (now (a .s)) eight, run-eight) (c .join .ensures)
+
+pub word-at-spec : {M : Type 1} → statement M
+word-at-spec =
+    tie.close
+    (tie.spec
+    returns
+    (λ c. search needs)
+    returns-2
+    (λ c. search needs)
+    (λ c. search needs)
+    (λ c. search needs)
+    (λ c. search needs)
+    (λ c. search needs)
+    (λ c. search needs)
+    (λ c. search needs)
+    (λ c. search needs)
+    (λ c. search needs)
+    (λ c. search needs)
+    (λ c. search needs)
+    (λ c. search needs)
+    (λ c. search needs)
+    (λ c. search needs)
+    (λ c. search needs)
+    (λ c κs. search needs)
+    returns-3)

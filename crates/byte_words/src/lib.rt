@@ -1,0 +1,153 @@
+// Eight bytes at once, as one number: whether they fit a sample or flags, and the numbers of three pairs of digits.
+use layout::words::ThreeNumbers;
+ghost use mathlib.Core.Path.{_≡_};
+ghost use mathlib.Core.List.{[], _∷_};
+ghost use Rattle.layout.specs.Layout.{run};
+ghost use Rattle.layout.specs.Words.{word, enough, sampleFits, bySample, eachBySample, numbersAt};
+ghost use Rattle.layout.specs.Words.{flagsFit, nonzeroBytes};
+
+// As one sum, so that the compiler makes a single load of eight bytes that stand side by side.
+fn join(a: u8, b: u8, c: u8, d: u8, e: u8, f: u8, g: u8, h: u8) -> u64
+    ensures { λ r. ⌜ r ≡ word (a ∷ b ∷ c ∷ d ∷ e ∷ f ∷ g ∷ h ∷ []) ⌝ }
+{
+    a as u64
+        + 256 * (b as u64)
+        + 65536 * (c as u64)
+        + 16777216 * (d as u64)
+        + 4294967296 * (e as u64)
+        + 1099511627776 * (f as u64)
+        + 281474976710656 * (g as u64)
+        + 72057594037927936 * (h as u64)
+}
+
+fn word_at(s: &[u8], at: usize) -> u64
+    ensures { λ r. ⌜ r ≡ word (run at 8 (enough at (now (s .entry)))) ⌝ }
+{
+    if s.len() < 8 {
+        return 0;
+    }
+    if s.len() - 8 < at {
+        return 0;
+    }
+    join(
+        s[at],
+        s[at + 1],
+        s[at + 2],
+        s[at + 3],
+        s[at + 4],
+        s[at + 5],
+        s[at + 6],
+        s[at + 7],
+    )
+}
+
+fn by_sample(p: u8, digit: u8, any: u8, fixed: u8) -> u8
+    ensures { λ r. ⌜ r ≡ bySample digit any fixed p ⌝ }
+{
+    if p == 48 {
+        return digit;
+    }
+    if p == 0 {
+        return any;
+    }
+    fixed
+}
+
+// A byte for each of a sample's: of a digit, of any byte, and of a fixed one.
+fn join_by_sample(
+    a: u8,
+    b: u8,
+    c: u8,
+    d: u8,
+    e: u8,
+    f: u8,
+    g: u8,
+    h: u8,
+    digit: u8,
+    any: u8,
+    fixed: u8,
+) -> u64
+    ensures { λ r. ⌜ r ≡ word (eachBySample digit any fixed (a ∷ b ∷ c ∷ d ∷ e ∷ f ∷ g ∷ h ∷ [])) ⌝ }
+{
+    join(
+        by_sample(a, digit, any, fixed),
+        by_sample(b, digit, any, fixed),
+        by_sample(c, digit, any, fixed),
+        by_sample(d, digit, any, fixed),
+        by_sample(e, digit, any, fixed),
+        by_sample(f, digit, any, fixed),
+        by_sample(g, digit, any, fixed),
+        by_sample(h, digit, any, fixed),
+    )
+}
+
+// Whether the eight bytes from a place on are as a sample says: `0` for a digit, 0 for any byte, any other byte for
+// itself. A byte's difference from the sample, bit by bit, is at most 9 at a digit and 0 at a fixed byte: a greater one
+// has the high bit, or gets it when 118 or 127 is added.
+pub fn eight_fit(
+    s: &[u8],
+    at: usize,
+    a: u8,
+    b: u8,
+    c: u8,
+    d: u8,
+    e: u8,
+    f: u8,
+    g: u8,
+    h: u8,
+) -> bool
+    ensures { λ r. ⌜ r ≡ sampleFits at (a ∷ b ∷ c ∷ d ∷ e ∷ f ∷ g ∷ h ∷ []) (now (s .entry)) ⌝ }
+{
+    let bytes = word_at(s, at);
+    let sample = join(a, b, c, d, e, f, g, h);
+    let more = join_by_sample(a, b, c, d, e, f, g, h, 118, 0, 127);
+    let high = join_by_sample(a, b, c, d, e, f, g, h, 128, 0, 128);
+    let difference = bytes ^ sample;
+    (difference | std::num::wrapping_add_u64(difference, more)) & high == 0
+}
+
+// The high bit of each byte that is not 0: 127 added to the seven low bits sets it, or it is set already.
+fn nonzero(w: u64) -> u64
+    ensures { λ r. ⌜ r ≡ nonzeroBytes 8 w ⌝ }
+{
+    let low = join(127, 127, 127, 127, 127, 127, 127, 127);
+    let high = join(128, 128, 128, 128, 128, 128, 128, 128);
+    (((w & low) + low) | w) & high
+}
+
+// Whether each of the seven bytes from a place on is its letter or a blank, and the eighth is the last byte: then no
+// byte differs from both. No byte is tested by itself, since a branch on a flag can't be foreseen.
+pub fn flags_fit(
+    s: &[u8],
+    at: usize,
+    a: u8,
+    b: u8,
+    c: u8,
+    d: u8,
+    e: u8,
+    f: u8,
+    g: u8,
+    last: u8,
+) -> bool
+    ensures { λ r. ⌜ r ≡ flagsFit at (a ∷ b ∷ c ∷ d ∷ e ∷ f ∷ g ∷ []) last (now (s .entry)) ⌝ }
+{
+    let bytes = word_at(s, at);
+    let from_blanks = bytes ^ join(32, 32, 32, 32, 32, 32, 32, last);
+    let from_letters = bytes ^ join(a, b, c, d, e, f, g, last);
+    nonzero(from_blanks) & nonzero(from_letters) == 0
+}
+
+// The numbers of three pairs of digits from a place on, each with a byte after it; 0 where there are no eight bytes.
+pub fn numbers_at(s: &[u8], at: usize) -> ThreeNumbers
+    ensures { λ r. ⌜ r ≡ numbersAt at (now (s .entry)) ⌝ }
+{
+    let halves = word_at(s, at) & join(15, 15, 15, 15, 15, 15, 15, 15);
+    let pairs = 10 * halves + halves / 256;
+    let second = pairs / 256 / 256 / 256;
+    let third = second / 256 / 256 / 256;
+    ThreeNumbers {
+        first: (pairs % 256) as u8,
+        second: (second % 256) as u8,
+        third: (third % 256) as u8,
+    }
+}

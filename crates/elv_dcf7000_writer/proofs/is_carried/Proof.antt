@@ -1,0 +1,30 @@
+-- `elv_dcf7000_writer::is_carried` meets its contract. Assumes nothing.
+use borrow.Author.Needs.{needs, sfits-of}
+use mir.Syntax.{w16}
+use mir.Val.{SFits}
+use mir.Facts.{toZ-ofZ}
+use Rattle.elv_dcf7000.specs.Elv.{elvCarries}
+use Rattle.elv_dcf7000_writer.proofs.is_carried.Statement.{statement}
+use Rattle.elv_dcf7000_writer.proofs.is_carried.Tie as tie
+
+offset-fits : (c : tie.Start) → SFits w16 (c .args .t .«utc_offset»)
+offset-fits c = search sfits-of
+
+returns : tie.Need-returns
+unfolding elvCarries
+returns c =
+    let day = c .before .before .before .before in
+    let same = day .before in
+    let zone = same .before .before in
+    let said : SFits w16 (zone .offset-of .result) = search sfits-of in
+    let same-is = rw (toZ-ofZ (offset-fits (zone .before)), toZ-ofZ said) at (same .same-offset .ensures) in
+    simp (day .weekday-number .ensures, same-is, zone .offset-of .ensures)
+
+pub is-carried-spec : {M : Type 1} → statement M
+is-carried-spec =
+    tie.close
+    (tie.spec
+    (λ c κs. search needs)
+    (λ c κs. search needs)
+    (λ c κs. search needs)
+    returns)

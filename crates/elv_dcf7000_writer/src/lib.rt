@@ -1,0 +1,67 @@
+// The writer of the string of an ELV DCF7000 clock.
+use clock_time::ClockTime;
+use clock_time::WriteAnswer;
+ghost use mathlib.Core.Path.{_≡_};
+ghost use Rattle.clock_time.specs.Writing.{outcome};
+ghost use Rattle.elv_dcf7000.specs.Elv.{flagSum, lineOf, elvText, elvCarries, writeElv};
+
+fn flag_sum(summer: bool, change: bool, unsynchronised: bool) -> u8
+    ensures { λ r. ⌜ r ≡ flagSum summer change unsynchronised ⌝ }
+{
+    summer as u8 + 2 * (change as u8) + 4 * (unsynchronised as u8)
+}
+
+// The layout with the fields of `t` and the number of its flags in it.
+fn line_with(t: ClockTime, flags: u8) -> [u8; 21]
+    ensures { λ r. ⌜ r ≡ lineOf t flags ⌝ }
+{
+    [
+        (48 + t.year / 10 % 10) as u8,
+        (48 + t.year % 10) as u8,
+        b'-',
+        48 + t.month / 10 % 10,
+        48 + t.month % 10,
+        b'-',
+        48 + t.day / 10 % 10,
+        48 + t.day % 10,
+        b'-',
+        48 + t.hour / 10 % 10,
+        48 + t.hour % 10,
+        b'-',
+        48 + t.minute / 10 % 10,
+        48 + t.minute % 10,
+        b'-',
+        48 + t.second / 10 % 10,
+        48 + t.second % 10,
+        b'-',
+        48 + flags / 10 % 10,
+        48 + flags % 10,
+        13,
+    ]
+}
+
+fn line_of(t: ClockTime) -> [u8; 21]
+    ensures { λ r. ⌜ r ≡ elvText t ⌝ }
+{
+    let flags = flag_sum(t.summer_time, t.dst_change_announced, t.unsynchronised);
+    line_with(t, flags)
+}
+
+// Whether an ELV string can say what `t` says.
+fn is_carried(t: ClockTime) -> bool
+    ensures { λ r. ⌜ r ≡ elvCarries t ⌝ }
+{
+    let zone = clock_time::same_offset(elv_dcf7000::offset_of(t.summer_time), t.utc_offset);
+    let weekday = calendar::date::weekday_number(t.year, t.month, t.day);
+    zone & (weekday == t.weekday) & !t.unverified & !t.leap_second_announced & !t.alternate_antenna
+}
+
+// Writes a clock time as an ELV DCF7000 string to the front of `out`: 23 where no such string is read as it, 20 where
+// there is no room for 21 bytes.
+pub fn write_elv(t: ClockTime, out: &mut [u8]) -> WriteAnswer
+    ensures { λ r. ⌜ outcome r (now (out .exit)) ≡ writeElv t (now (out .entry)) ⌝ }
+{
+    let line = line_of(t);
+    let readable = calendar::unix_time::is_valid(t) & is_carried(t);
+    clock_time::write_bytes(readable, &line, out)
+}

@@ -1,0 +1,19 @@
+// The writer of the Meinberg GPS string.
+use clock_time::WriteAnswer;
+use meinberg_gps::GpsTime;
+ghost use mathlib.Core.Path.{_≡_};
+ghost use Rattle.clock_time.specs.Writing.{outcome};
+ghost use Rattle.meinberg_gps.specs.Gps.{writeGps};
+
+pub mod parts;
+mod text;
+
+// Writes a clock time and a position as a Meinberg GPS string to the front of `out`: 23 where no such string is read as
+// them, 20 where there is no room for 66 bytes.
+pub fn write_gps(g: GpsTime, out: &mut [u8]) -> WriteAnswer
+    ensures { λ r. ⌜ outcome r (now (out .exit)) ≡ writeGps g (now (out .entry)) ⌝ }
+{
+    let line = text::text_of(g);
+    let readable = calendar::unix_time::is_valid(g.time) & gps_position::is_carried(g.position);
+    clock_time::write_bytes(readable, &line, out)
+}

@@ -1,0 +1,23 @@
+// The bytes of an offset.
+ghost use mathlib.Core.Path.{_≡_};
+ghost use Rattle.meinberg_gps.specs.Gps.{offsetText};
+
+// A sign, two digits, a colon, two digits.
+pub type OffsetText = [u8; 6];
+
+// The bytes of a UTC offset, from its sign on.
+pub fn offset_text(offset: i16) -> OffsetText
+    ensures { λ r. ⌜ r ≡ offsetText offset ⌝ }
+{
+    let size = signed::size(offset as i32);
+    let hours = size / 60;
+    let minutes = size % 60;
+    [
+        signed::sign_byte(b'+', b'-', offset as i32),
+        48 + (hours / 10 % 10) as u8,
+        48 + (hours % 10) as u8,
+        b':',
+        48 + (minutes / 10 % 10) as u8,
+        48 + (minutes % 10) as u8,
+    ]
+}

@@ -1,0 +1,26 @@
+-- `meinberg_pzf_writer::is_carried` meets its contract. Assumes nothing.
+use borrow.Author.Needs.{needs, sfits-of}
+use mir.Syntax.{w16}
+use mir.Val.{SFits}
+use mir.Facts.{toZ-ofZ}
+use Rattle.meinberg_pzf.specs.Pzf.{pzfCarries}
+use Rattle.meinberg_pzf_writer.proofs.is_carried.Statement.{statement}
+use Rattle.meinberg_pzf_writer.proofs.is_carried.Tie as tie
+
+offset-fits : (c : tie.Start) → SFits w16 (c .args .t .«utc_offset»)
+offset-fits c = search sfits-of
+
+returns : tie.Need-returns
+unfolding pzfCarries
+returns c =
+    let zone = c .before .before in
+    let utc = zone .before in
+    let given = toZ-ofZ (offset-fits (utc .before .before)) in
+    let said : SFits w16 (zone .offset-of .result) = search sfits-of in
+    let utc-is = rw given at (utc .same-offset .ensures) in
+    let same-is = rw (given, toZ-ofZ said) at (c .same-offset2 .ensures) in
+    simp (same-is, zone .offset-of .ensures, utc-is)
+
+pub is-carried-spec : {M : Type 1} → statement M
+is-carried-spec =
+    tie.close (tie.spec (λ c κs. search needs) (λ c κs. search needs) (λ c κs. search needs) returns)

@@ -1,0 +1,81 @@
+// The writer of the Meinberg PZF string.
+use clock_time::ClockTime;
+use clock_time::WriteAnswer;
+ghost use mathlib.Core.Path.{_≡_};
+ghost use Rattle.clock_time.specs.Writing.{outcome};
+ghost use Rattle.meinberg_pzf.specs.Pzf.{lineOf, pzfText, pzfCarries, writePzf};
+
+// The layout with the fields of `t` and the seven flag letters in it.
+fn line_with(t: ClockTime, utc: u8, u: u8, v: u8, x: u8, y: u8, z: u8, a: u8) -> [u8; 32]
+    ensures { λ r. ⌜ r ≡ lineOf t utc u v x y z a ⌝ }
+{
+    [
+        2,
+        48 + t.day / 10 % 10,
+        48 + t.day % 10,
+        b'.',
+        48 + t.month / 10 % 10,
+        48 + t.month % 10,
+        b'.',
+        (48 + t.year / 10 % 10) as u8,
+        (48 + t.year % 10) as u8,
+        b';',
+        b' ',
+        48 + t.weekday % 10,
+        b';',
+        b' ',
+        48 + t.hour / 10 % 10,
+        48 + t.hour % 10,
+        b':',
+        48 + t.minute / 10 % 10,
+        48 + t.minute % 10,
+        b':',
+        48 + t.second / 10 % 10,
+        48 + t.second % 10,
+        b';',
+        b' ',
+        utc,
+        u,
+        v,
+        x,
+        y,
+        z,
+        a,
+        3,
+    ]
+}
+
+// The bytes of a PZF string.
+pub type PzfBytes = [u8; 32];
+
+// The only PZF string that could be read as `t`.
+pub fn line_of(t: ClockTime) -> PzfBytes
+    ensures { λ r. ⌜ r ≡ pzfText t ⌝ }
+{
+    let utc = layout::letter_if(clock_time::same_offset(t.utc_offset, 0), b'U');
+    let u = layout::letter_if(t.unsynchronised, b'#');
+    let v = layout::letter_if(t.unverified, b'*');
+    let x = layout::letter_if(t.summer_time, b'S');
+    let y = layout::letter_if(t.dst_change_announced, b'!');
+    let z = layout::letter_if(t.leap_second_announced, b'A');
+    let a = layout::letter_if(t.alternate_antenna, b'R');
+    line_with(t, utc, u, v, x, y, z, a)
+}
+
+// Whether the flags of a PZF string can say the zone of `t`.
+fn is_carried(t: ClockTime) -> bool
+    ensures { λ r. ⌜ r ≡ pzfCarries t ⌝ }
+{
+    let utc = clock_time::same_offset(t.utc_offset, 0);
+    clock_time::same_offset(meinberg_pzf::offset_of(utc, t.summer_time), t.utc_offset)
+}
+
+// Writes a clock time as a Meinberg PZF string to the front of `out`: 23 where no such string is read as it, 20 where
+// there is no room for 32 bytes.
+pub fn write_pzf(t: ClockTime, out: &mut [u8]) -> WriteAnswer
+    ensures { λ r. ⌜ outcome r (now (out .exit)) ≡ writePzf t (now (out .entry)) ⌝ }
+{
+    let line = line_of(t);
+    let readable = calendar::unix_time::is_valid(t) & is_carried(t);
+    clock_time::write_bytes(readable, &line, out)
+}

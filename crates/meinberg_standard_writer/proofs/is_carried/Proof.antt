@@ -1,0 +1,27 @@
+-- `meinberg_standard_writer::is_carried` meets its contract. Assumes nothing.
+use borrow.Author.Needs.{needs, sfits-of}
+use mir.Syntax.{w16}
+use mir.Val.{SFits}
+use mir.Facts.{toZ-ofZ}
+use Rattle.meinberg_standard.specs.Standard.{standardCarries}
+use Rattle.meinberg_standard_writer.proofs.is_carried.Statement.{statement}
+use Rattle.meinberg_standard_writer.proofs.is_carried.Tie as tie
+
+offset-fits : (c : tie.Start) → SFits w16 (c .args .t .«utc_offset»)
+offset-fits c = search sfits-of
+
+returns : tie.Need-returns
+unfolding standardCarries
+returns c =
+    let same = c .before .before in
+    let zone = same .before .before in
+    let letter = zone .before in
+    let given = toZ-ofZ (offset-fits (letter .before .before)) in
+    let read : SFits w16 (zone .zone-offset .result) = search sfits-of in
+    let letter-is = rw given at (letter .zone-letter .ensures) in
+    let same-is = rw (given, toZ-ofZ read) at (same .same-offset .ensures) in
+    simp (same-is, zone .zone-offset .ensures, letter-is)
+
+pub is-carried-spec : {M : Type 1} → statement M
+is-carried-spec =
+    tie.close (tie.spec (λ c κs. search needs) (λ c κs. search needs) (λ c κs. search needs) returns)

@@ -1,0 +1,98 @@
+// The writer of the Meinberg standard string.
+use clock_time::ClockTime;
+use clock_time::WriteAnswer;
+ghost use mathlib.Core.Path.{_≡_};
+ghost use Rattle.clock_time.specs.Writing.{outcome};
+ghost use Rattle.meinberg_standard.specs.Standard.{zoneLetter, announcedLetter, lineOf, standardText};
+ghost use Rattle.meinberg_standard.specs.Standard.{standardCarries, writeStandard};
+
+fn zone_letter(offset: i16, summer: bool) -> u8
+    ensures { λ r. ⌜ r ≡ zoneLetter offset summer ⌝ }
+{
+    if summer {
+        return b'S';
+    }
+    if offset == 0 {
+        return b'U';
+    }
+    b' '
+}
+
+fn announced_letter(change: bool, leap: bool) -> u8
+    ensures { λ r. ⌜ r ≡ announcedLetter change leap ⌝ }
+{
+    if change {
+        return b'!';
+    }
+    layout::letter_if(leap, b'A')
+}
+
+// The layout with the fields of `t` and the four flag letters in it.
+fn line_with(t: ClockTime, u: u8, v: u8, x: u8, y: u8) -> [u8; 32]
+    ensures { λ r. ⌜ r ≡ lineOf t u v x y ⌝ }
+{
+    [
+        2,
+        b'D',
+        b':',
+        48 + t.day / 10 % 10,
+        48 + t.day % 10,
+        b'.',
+        48 + t.month / 10 % 10,
+        48 + t.month % 10,
+        b'.',
+        (48 + t.year / 10 % 10) as u8,
+        (48 + t.year % 10) as u8,
+        b';',
+        b'T',
+        b':',
+        48 + t.weekday % 10,
+        b';',
+        b'U',
+        b':',
+        48 + t.hour / 10 % 10,
+        48 + t.hour % 10,
+        b'.',
+        48 + t.minute / 10 % 10,
+        48 + t.minute % 10,
+        b'.',
+        48 + t.second / 10 % 10,
+        48 + t.second % 10,
+        b';',
+        u,
+        v,
+        x,
+        y,
+        3,
+    ]
+}
+
+fn line_of(t: ClockTime) -> [u8; 32]
+    ensures { λ r. ⌜ r ≡ standardText t ⌝ }
+{
+    let u = layout::letter_if(t.unsynchronised, b'#');
+    let v = layout::letter_if(t.unverified, b'*');
+    let x = zone_letter(t.utc_offset, t.summer_time);
+    let y = announced_letter(t.dst_change_announced, t.leap_second_announced);
+    line_with(t, u, v, x, y)
+}
+
+// Whether the letters of a standard string can say what `t` says.
+fn is_carried(t: ClockTime) -> bool
+    ensures { λ r. ⌜ r ≡ standardCarries t ⌝ }
+{
+    let zone = meinberg_standard::zone_offset(zone_letter(t.utc_offset, t.summer_time));
+    clock_time::same_offset(zone, t.utc_offset)
+        & !(t.dst_change_announced & t.leap_second_announced)
+        & !t.alternate_antenna
+}
+
+// Writes a clock time as a Meinberg standard string to the front of `out`: 23 where no such string is read as it, 20
+// where there is no room for 32 bytes.
+pub fn write_standard(t: ClockTime, out: &mut [u8]) -> WriteAnswer
+    ensures { λ r. ⌜ outcome r (now (out .exit)) ≡ writeStandard t (now (out .entry)) ⌝ }
+{
+    let line = line_of(t);
+    let readable = calendar::unix_time::is_valid(t) & is_carried(t);
+    clock_time::write_bytes(readable, &line, out)
+}

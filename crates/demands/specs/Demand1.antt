@@ -95,7 +95,8 @@ pub record Demand1 : Type 0 where
   -- a DCF77 minute
   pub read-minute : (m : List ℕ) → Ordered (minuteChecks m) minuteOrder (readMinute m)
   pub write-minute : (a : MinuteTime) (d : List ℕ) →
-      Lent (writerLines (readsBack readMinute minuteText sameMinute a) (minuteText a) d) (23 ∷ 20 ∷ []) d (writeMinute a d)
+      Lent (writerLines (readsBack readMinute minuteText sameMinute a) (minuteText a) d) (23 ∷ 20 ∷ []) d
+      (writeMinute a d)
   -- the number at a gap of a recording
   pub gap-order : (marks : List ℕ) (place : ℕ) →
       Ordered (gapLines marks place (gapBefore marks place)) (10 ∷ minuteOrder) (gapAnswer marks place)
@@ -110,7 +111,7 @@ pub record Demand1 : Type 0 where
   pub correct-mark : (marks outcomes : List ℕ) (place mark : ℕ) →
       Lent (correctionChecks marks outcomes place mark) (20 ∷ 21 ∷ 22 ∷ []) (recorded marks outcomes)
       (correctMark marks outcomes place mark)
-  -- "Refused with 23 where the fields are no valid reading" (01, The reading); "5 no such date" (01, Refusal numbers)
+  -- "Refused with 23 where the fields are no valid reading" (01, The reading); 5: "no such date" (01, Refusal numbers)
   pub unix-time : (t : ClockTime) → Ordered (given 23 (not (isValid t)) ∷ []) (23 ∷ []) (unixTime t)
   pub day-number : (year month day : ℕ) →
       Ordered (given 5 (not (knownDate year month day)) ∷ []) (5 ∷ []) (dayNumber year month day)

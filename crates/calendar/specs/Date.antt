@@ -20,15 +20,16 @@ monthLengths leap = 31 ∷ cond leap 29 28 ∷ 31 ∷ 30 ∷ 31 ∷ 30 ∷ 31 �
 unfoldable pub daysInMonth : ℕ → ℕ → ℕ
 daysInMonth year month = getD (0 ∷ monthLengths (isLeapYear year)) month 0
 
--- "a date" (01, The reading); otherwise "5 no such date" (01, Refusal numbers)
+-- "a date" (01, The reading); otherwise 5: "no such date" (01, Refusal numbers)
 unfoldable pub dateExists : ℕ → ℕ → ℕ → Bool
 dateExists year month day = leb 1 day && leb day (daysInMonth year month)
 
--- "Two digits of year mean 1970 to 2069: 70..99 are 19xx, 00..69 are 20xx." (01, The reading)
+-- the first of the hundred years "1970 to 2069" (01, The reading)
 abbrev pub firstYear : ℕ
 firstYear = 1970
 
--- the one of these hundred years that ends in two digits
+-- "Two digits of year mean 1970 to 2069: 70..99 are 19xx, 00..69 are 20xx." (01, The reading): the one of these hundred
+-- years that ends in the two digits
 unfoldable pub fullYear : ℕ → ℕ
 fullYear digits = firstYear + (digits + 100 - firstYear % 100) % 100
 
@@ -54,7 +55,7 @@ daysBeforeMonth year month = sum (take (month - 1) (monthLengths (isLeapYear yea
 unfoldable pub daysSinceEpoch : ℕ → ℕ → ℕ → ℕ
 daysSinceEpoch year month day = daysOfYears 1970 (year - 1970) + daysBeforeMonth year month + (day - 1)
 
--- "5 no such date" (01, Refusal numbers), also outside 1970 to 2069
+-- 5: "no such date" (01, Refusal numbers), also outside 1970 to 2069
 unfoldable pub dayNumber : ℕ → ℕ → ℕ → Answer ℕ
 dayNumber year month day = checked (given 5 (not (knownDate year month day)) ∷ []) (daysSinceEpoch year month day)
 
@@ -62,7 +63,7 @@ dayNumber year month day = checked (given 5 (not (knownDate year month day)) ∷
 unfoldable pub weekdayNumber : ℕ → ℕ → ℕ → ℕ
 weekdayNumber year month day = 1 + (daysSinceEpoch year month day + 3) % 7
 
--- "5 no such date" (01, Refusal numbers), also outside 1970 to 2069
+-- 5: "no such date" (01, Refusal numbers), also outside 1970 to 2069
 unfoldable pub weekdayOf : ℕ → ℕ → ℕ → Answer ℕ
 weekdayOf year month day = checked (given 5 (not (knownDate year month day)) ∷ []) (weekdayNumber year month day)
 

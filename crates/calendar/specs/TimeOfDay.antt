@@ -13,7 +13,7 @@ modulo (negsuc n) k = k - 1 - n % k
 unfoldable pub utcMinute : ℕ → ℕ → ℤ → ℕ
 utcMinute hour minute offset = modulo (pos (60 * hour + minute) -ℤ offset) 1440
 
--- not "6 no such time of day, second 60 rule included" (01, Refusal numbers):
+-- not 6: "no such time of day, second 60 rule included" (01, Refusal numbers);
 -- "Second 60 is allowed only where (60 × hour + minute − offset) modulo 1,440 is 1,439." (01, The reading)
 unfoldable pub timeExists : ℕ → ℕ → ℕ → ℤ → Bool
 timeExists hour minute second offset =

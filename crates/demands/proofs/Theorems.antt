@@ -18,16 +18,19 @@ use Rattle.clock_time.specs.declared.ClockTime.{ClockTime}
 use Rattle.calendar.specs.Date.{knownDate, daysSinceEpoch, dayNumber, weekdayNumber, weekdayOf}
 use Rattle.calendar.specs.UnixTime.{isValid, instantOf, unixTime}
 use Rattle.decimal.specs.Decimal.{value, digits, firstNonDigit, readDigits, writeDigits}
-use Rattle.layout.specs.Accepts.{Accepts}
 use Rattle.layout.specs.Text.{clockChecks, textChecks, readText, writeText}
+use Rattle.meinberg_standard.specs.Accepts.{AcceptsStandard}
 use Rattle.meinberg_standard.specs.Standard.{standard, standardFields, readStandard, writeStandard}
 use Rattle.meinberg_standard.proofs.Theorems as standards
+use Rattle.meinberg_pzf.specs.Accepts.{AcceptsPzf}
 use Rattle.meinberg_pzf.specs.Pzf.{pzf, pzfFields, readPzf, writePzf}
 use Rattle.meinberg_pzf.proofs.Theorems as pzfs
 use Rattle.gps_position.specs.Position.{positionFault, positionOf, readPosition}
+use Rattle.meinberg_gps.specs.Accepts.{AcceptsGps}
 use Rattle.meinberg_gps.specs.Gps.{gps, gpsFields, readGps, writeGps}
 use Rattle.meinberg_gps.specs.declared.GpsTime.{GpsTime}
 use Rattle.meinberg_gps.proofs.Theorems as gpss
+use Rattle.elv_dcf7000.specs.Accepts.{AcceptsElv}
 use Rattle.elv_dcf7000.specs.Elv.{elv, elvFields, readElv, writeElv}
 use Rattle.elv_dcf7000.proofs.Theorems as elvs
 use Rattle.time_string.specs.Kind.{Reading, kindOf, readAs}
@@ -275,16 +278,16 @@ c-feed old s limit = from-left tt old _ (given 20 (ltb (length (old .state)) 68)
 -- "A string or a DCF77 minute is accepted exactly when the rules in document 01 hold, and then every field, offset and
 -- flag is the one those rules give. Written back, an accepted reading gives the same bytes or marks. Given room enough,
 -- a writer refuses a reading exactly when nothing acceptable in that format reads as it."
-pub standard-faithful : Faithful (Accepts standard) standardFields readStandard writeStandard
+pub standard-faithful : Faithful AcceptsStandard standardFields readStandard writeStandard
 standard-faithful = standards.faithful
 
-pub pzf-faithful : Faithful (Accepts pzf) pzfFields readPzf writePzf
+pub pzf-faithful : Faithful AcceptsPzf pzfFields readPzf writePzf
 pzf-faithful = pzfs.faithful
 
-pub gps-faithful : Faithful (Accepts gps) gpsFields readGps writeGps
+pub gps-faithful : Faithful AcceptsGps gpsFields readGps writeGps
 gps-faithful = gpss.faithful
 
-pub elv-faithful : Faithful (Accepts elv) elvFields readElv writeElv
+pub elv-faithful : Faithful AcceptsElv elvFields readElv writeElv
 elv-faithful = elvs.faithful
 
 pub minute-faithful : Faithful AcceptsMinute minuteFields readMinute writeMinute

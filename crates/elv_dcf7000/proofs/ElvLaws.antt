@@ -23,7 +23,6 @@ use Rattle.calendar.proofs.DateLaws.{known-exists}
 use Rattle.decimal.specs.Decimal.{digits, value, valueFrom}
 use Rattle.decimal.proofs.DecimalLaws.{value-digits, digit-range}
 use Rattle.layout.specs.Ascii.{ascii}
-use Rattle.layout.specs.Accepts.{Accepts}
 use Rattle.layout.specs.Layout.{allowed, fitsFrom, FitsLayout, number}
 use Rattle.layout.specs.Text.{clockChecks}
 use Rattle.layout.proofs.LayoutLaws.{tested-fits, digit-place}
@@ -33,15 +32,16 @@ use Rattle.layout.proofs.DecideLaws.{digit-fits, Written, written, DecidesClock
 use Rattle.elv_dcf7000.specs.Elv.{elvLayout, elvFlags, elvFlagFault, summerIn, changeIn, unsynchronisedIn}
 use Rattle.elv_dcf7000.specs.Elv.{elvOffset, sentFields, withWeekday, elvFields, flagSum, elvText, elvCarries}
 use Rattle.elv_dcf7000.specs.Elv.{elv, readElv, writeElv}
+use Rattle.elv_dcf7000.specs.Accepts.{AcceptsElv}
 
 -- ---- the weekday
 -- the weekday of what is read is the one that the calendar has for its date
-pub read-weekday : (s : List ℕ) → Accepts elv s
+pub read-weekday : (s : List ℕ) → AcceptsElv s
     → weekdayOf (fullYear (number 2 0 s)) (number 2 3 s) (number 2 6 s) ≡ accepted (elvFields s .weekday)
-unfolding weekdayOf weekdayOrZero elv elvFields sentFields withWeekday
+unfolding weekdayOf weekdayOrZero elvFields sentFields withWeekday
 read-weekday s r = simp (known-exists _ _ _ ∙ r .date)
 
-weekday-range : (y m d : ℕ) → knownDate y m d ≡ true
+pub weekday-range : (y m d : ℕ) → knownDate y m d ≡ true
     → (leb 1 (weekdayOrZero y m d) && leb (weekdayOrZero y m d) 7) ≡ true
 unfolding weekdayOrZero weekdayNumber
 weekday-range y m d h =
@@ -139,12 +139,12 @@ flagSum-back n h =
     eqb→eq _ _ (below-at 8 (λ k. eqb (flagSum (summerIn k) (changeIn k) (unsynchronisedIn k)) k) tt n h)
 
 -- ---- the text of the fields
-pub elv-back : (s : List ℕ) → Accepts elv s → elvText (elvFields s) ≡ s
-unfolding elvText elvFields withWeekday sentFields elvLayout elv elvFlagFault ascii
+pub elv-back : (s : List ℕ) → AcceptsElv s → elvText (elvFields s) ≡ s
+unfolding elvText elvFields withWeekday sentFields elvLayout ascii
 elv-back s r =
     let h = r .fits in
     let d = digits-number h in
-    let few : elvFlags s < 8 = omega (arith, ltb-false 7 (elvFlags s) (r .flags)) in
+    let few : elvFlags s < 8 = omega (arith, r .flags) in
     simp (
       digits-year h 0 (lit≤ tt) refl,
       d 2 3 (lit≤ tt) refl,

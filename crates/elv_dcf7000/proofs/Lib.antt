@@ -1,3 +1,4 @@
 -- Laws of the definitions, and the main results.
 pub mod ElvLaws
+pub mod AcceptLaws
 pub mod Theorems

@@ -9,16 +9,17 @@ use Rattle.clock_time.specs.declared.ClockTime.{ClockTime}
 use Rattle.clock_time.proofs.SameLaws.{sameTime-refl, sameTime-true}
 use Rattle.calendar.specs.Date.{weekdayOf}
 use Rattle.calendar.specs.UnixTime.{isValid}
-use Rattle.layout.specs.Accepts.{Accepts}
 use Rattle.layout.proofs.DecideLaws.{clock-valid}
 use Rattle.layout.proofs.Theorems as text
 use Rattle.elv_dcf7000.specs.Elv.{sentFields, withWeekday, elvFields, elv, readElv, writeElv}
+use Rattle.elv_dcf7000.specs.Accepts.{AcceptsElv}
+use Rattle.elv_dcf7000.proofs.AcceptLaws.{elv-exactly}
 use Rattle.elv_dcf7000.proofs.ElvLaws.{read-weekday, elv-back, decides}
 
 -- demand 2: acceptance, the fields read, and what is written
-pub faithful : Faithful (Accepts elv) elvFields readElv writeElv
+pub faithful : Faithful AcceptsElv elvFields readElv writeElv
 unfolding readElv writeElv elv
-faithful = text.faithful elv elv-back sameTime-refl sameTime-true
+faithful = text.faithful elv AcceptsElv elv-exactly elv-back sameTime-refl sameTime-true
 
 -- the weekday that is read is the one that the calendar has for the date
 pub weekday-read : (s : List ℕ) (t : ClockTime) → readElv s ≡ accepted t

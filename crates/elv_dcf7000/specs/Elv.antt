@@ -22,11 +22,11 @@ elvLayout =
     ++ ascii "-" ++ places 2 digit ++ ascii "-" ++ places 2 digit ++ ascii "-" ++ places 2 digit
     ++ ascii "-" ++ places 2 digit ++ ascii "\r"
 
--- "FF is 00..07, else 4" (01, Meinberg and ELV strings); where one of its bytes is no digit, that is 3
+-- the number FF of "`YY-MM-DD-HH-MM-SS-FF` and CR" (01, Meinberg and ELV strings)
 abbrev pub elvFlags : List ℕ → ℕ
 elvFlags s = number 2 18 s
 
--- FF is above 07
+-- not "FF is 00..07, else 4" (01, Meinberg and ELV strings); where one of its bytes is no digit, that is 3
 unfoldable pub elvFlagFault : List ℕ → Bool
 elvFlagFault s = ltb 7 (elvFlags s)
 
@@ -42,7 +42,7 @@ changeIn flags = eqb (flags / 2 % 2) 1
 abbrev pub unsynchronisedIn : ℕ → Bool
 unsynchronisedIn flags = eqb (flags / 4 % 2) 1
 
--- the offset with and without summer time
+-- "1 summer (offset 120, else 60)" (01, Meinberg and ELV strings)
 unfoldable pub elvOffset : Bool → ℤ
 elvOffset summer = cond summer (pos 120) (pos 60)
 

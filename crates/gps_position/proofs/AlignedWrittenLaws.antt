@@ -34,7 +34,7 @@ value-aligned (suc k) n h =
     rw (valueFrom-append 0, value-padded k (n / 10) small) (omega arith)
 
 -- ---- blanks and digits
-high-first : (b c : ℕ) (s : List ℕ) → 48 < b → b < 58 → areDigits (c ∷ s) ≡ true → rightAligned (b ∷ c ∷ s) ≡ true
+pub high-first : (b c : ℕ) (s : List ℕ) → 48 < b → b < 58 → areDigits (c ∷ s) ≡ true → rightAligned (b ∷ c ∷ s) ≡ true
 unfolding rightAligned
 high-first b c s lo hi h = simp (le-leb 49 b (omega arith), le-leb b 57 (omega arith), h, or-true)
 

@@ -5,3 +5,4 @@ pub mod AlignedWrittenLaws
 pub mod PositionLaws
 pub mod PositionBackLaws
 pub mod PositionWrittenLaws
+pub mod AcceptLaws

@@ -71,11 +71,11 @@ positionFault s = not (positionDigits s && inRange latitude s && inRange longitu
 unfoldable pub angleOf : Angle → List ℕ → ℤ
 angleOf a s = signed (eqb (hemisphere a s) (code (a .below))) (angleSize a s)
 
--- the position that a string says
+-- the position that a string says; a blank of the height counts as 0, as in an angle
 unfoldable pub positionOf : List ℕ → Position
 positionOf s = record { latitude = angleOf latitude s; longitude = angleOf longitude s; height = number 4 60 s }
 
--- "9 position" (01, Refusal numbers)
+-- 9: "position" (01, Refusal numbers)
 unfoldable pub readPosition : List ℕ → Answer Position
 readPosition s = checked (given 9 (positionFault s) ∷ []) (positionOf s)
 

@@ -1,4 +1,4 @@
--- A string is read exactly if the rules hold, for any format. Assumes nothing.
+-- A string is read exactly if it passes every check of its format, in whatever order. Assumes nothing.
 use Prim.Native.Nat.{ℕ}
 use mathlib.Core.Path.{_≡_, refl}
 use mathlib.Core.Bool.{Bool, true, false, _||_, true≢false}
@@ -10,17 +10,25 @@ use Rattle.clock_time.proofs.ErrorLaws.{accepted-passes, passes-accepted}
 use Rattle.clock_time.proofs.Tests.{both}
 use Rattle.layout.specs.Layout.{found}
 use Rattle.layout.specs.Text.{Format, clockChecks, textChecks, readText}
-use Rattle.layout.specs.Accepts.{Accepts}
+use Rattle.layout.specs.Accepts.{AcceptsClock}
 use Rattle.layout.proofs.LayoutLaws.{none-found, fits-found}
+
+-- a string that passes: the rules that all formats share hold of it, and the format's own tests find no fault
+pub record PassesText {A : Type 0} (f : Format A) (s : List ℕ) : Type 0 where
+  pub clock : AcceptsClock (f .layout) (f .clock (f .fields s)) s
+  pub flags : f .flagFault s ≡ false
+  pub offset : f .offsetFault s ≡ false
+  pub position : f .positionFault s ≡ false
+  pub agrees : f .mismatch s ≡ false
 
 neither : (a b : Bool) → (a || b) ≡ false → (a ≡ false) × (b ≡ false)
 neither true b h = absurd (true≢false h)
 neither false b h = (refl, h)
 
 module _ {A : Type 0} (f : Format A) (s : List ℕ) where
-  pub read-accepts : (a : A) → readText f s ≡ accepted a → Accepts f s × (a ≡ f .fields s)
+  pub read-passes : (a : A) → readText f s ≡ accepted a → PassesText f s × (a ≡ f .fields s)
   unfolding readText textChecks clockChecks
-  read-accepts a h =
+  read-passes a h =
       let w = accepted-passes (textChecks f s) (f .fields s) a h in
       let p = w .0 in
       let r = p .1 .1 .1 in
@@ -29,39 +37,42 @@ module _ {A : Type 0} (f : Format A) (s : List ℕ) where
       let time = neither _ (f .mismatch s) (c .1 .0) in
       let weekday = both _ _ (not-false _ (c .1 .1 .0)) in (
         record {
-          fits = none-found (f .layout) s (eqb-true _ _ (not-false _ (p .0))) (p .1 .0) (p .1 .1 .0) (flags .0);
+          clock = record {
+            fits = none-found (f .layout) s (eqb-true _ _ (not-false _ (p .0))) (p .1 .0) (p .1 .1 .0) (flags .0);
+            date = not-false _ (c .0);
+            time = not-false _ (time .0);
+            monday = leb-true _ _ (weekday .0);
+            sunday = leb-true _ _ (weekday .1);
+          };
           flags = flags .1;
           offset = r .1 .0;
           position = r .1 .1 .0;
-          date = not-false _ (c .0);
-          time = not-false _ (time .0);
           agrees = time .1;
-          monday = leb-true _ _ (weekday .0);
-          sunday = leb-true _ _ (weekday .1);
         },
         w .1,
       )
 
-  pub accepts-read : Accepts f s → readText f s ≡ accepted (f .fields s)
+  pub passes-read : PassesText f s → readText f s ≡ accepted (f .fields s)
   unfolding readText textChecks clockChecks
-  accepts-read r =
+  passes-read r =
+      let fit = r .clock .fits in
       passes-accepted (textChecks f s) (f .fields s) (
-        simp (eq-eqb _ _ (r .fits .long)),
+        simp (eq-eqb _ _ (fit .long)),
         (
-          fits-found 2 (lit< tt) (r .fits),
+          fits-found 2 (lit< tt) fit,
           (
-            fits-found 3 (lit< tt) (r .fits),
+            fits-found 3 (lit< tt) fit,
             (
-              simp (fits-found 4 (lit< tt) (r .fits), r .flags),
+              simp (fits-found 4 (lit< tt) fit, r .flags),
               (
                 r .offset,
                 (
                   r .position,
                   (
-                    simp (r .date),
+                    simp (r .clock .date),
                     (
-                      simp (r .time, r .agrees),
-                      (simp (le-leb _ _ (r .monday), le-leb _ _ (r .sunday)), tt),
+                      simp (r .clock .time, r .agrees),
+                      (simp (le-leb _ _ (r .clock .monday), le-leb _ _ (r .clock .sunday)), tt),
                     ),
                   ),
                 ),

@@ -23,8 +23,7 @@ use Rattle.decimal.specs.Decimal.{isDigit, digits, value}
 use Rattle.decimal.proofs.DecimalLaws.{value-digits}
 use Rattle.layout.specs.Layout.{FitsLayout}
 use Rattle.layout.specs.Text.{Format, clockFormat, readText, writeText, letter}
-use Rattle.layout.specs.Accepts.{Accepts}
-use Rattle.layout.proofs.AcceptLaws.{read-accepts, accepts-read}
+use Rattle.layout.proofs.AcceptLaws.{PassesText, read-passes, passes-read}
 
 -- ---- what a text has at its places
 pub digit-fits : (n : ℕ) → isDigit (48 + n % 10) ≡ true
@@ -82,8 +81,8 @@ written t h =
 pub record Decides {A : Type 0} (f : Format A) (carries : A → Bool) : Type 0 where
   -- what is read is carried, has a year of two digits and an offset in range
   pub year : (s : List ℕ) → (n : ℕ) × (f .clock (f .fields s) .year ≡ fullYear n)
-  pub offset : (s : List ℕ) → Accepts f s → offsetInRange (f .clock (f .fields s) .«utc_offset») ≡ true
-  pub carried : (s : List ℕ) → Accepts f s → carries (f .fields s) ≡ true
+  pub offset : (s : List ℕ) → PassesText f s → offsetInRange (f .clock (f .fields s) .«utc_offset») ≡ true
+  pub carried : (s : List ℕ) → PassesText f s → carries (f .fields s) ≡ true
   -- the text of a valid reading that is carried fits its layout, has no further faults, and says the same
   pub fits : (a : A) → isValid (f .clock a) ≡ true → carries a ≡ true → FitsLayout (f .layout) (f .text a)
   pub flags : (a : A) → isValid (f .clock a) ≡ true → carries a ≡ true → f .flagFault (f .text a) ≡ false
@@ -93,36 +92,39 @@ pub record Decides {A : Type 0} (f : Format A) (carries : A → Bool) : Type 0 w
   pub says : (a : A) → isValid (f .clock a) ≡ true → carries a ≡ true → f .fields (f .text a) ≡ a
 
 module _ {A : Type 0} (f : Format A) (carries : A → Bool) (d : Decides f carries) where
-  read-valid : (s : List ℕ) → Accepts f s → isValid (f .clock (f .fields s)) ≡ true
+  read-valid : (s : List ℕ) → PassesText f s → isValid (f .clock (f .fields s)) ≡ true
   read-valid s r =
       let y = d .year s in
-      checked-valid (f .clock (f .fields s)) (y .0) (y .1) (r .date) (r .time) (r .monday) (r .sunday) (d .offset s r)
+      let c = r .clock in
+      checked-valid (f .clock (f .fields s)) (y .0) (y .1) (c .date) (c .time) (c .monday) (c .sunday) (d .offset s r)
 
-  text-accepted : (a : A) → isValid (f .clock a) ≡ true → carries a ≡ true → Accepts f (f .text a)
-  text-accepted a h k =
+  text-passes : (a : A) → isValid (f .clock a) ≡ true → carries a ≡ true → PassesText f (f .text a)
+  text-passes a h k =
       let v = valid (f .clock a) h in
       let same = d .says a h k in
       record {
-        fits = d .fits a h k;
+        clock = record {
+          fits = d .fits a h k;
+          date = rw same (v .exists);
+          time = rw same (v .time);
+          monday = rw same (v .monday);
+          sunday = rw same (v .sunday);
+        };
         flags = d .flags a h k;
         offset = d .offsets a h k;
         position = d .position a h k;
-        date = rw same (v .exists);
-        time = rw same (v .time);
         agrees = d .agrees a h k;
-        monday = rw same (v .monday);
-        sunday = rw same (v .sunday);
       }
 
   passes : (s : List ℕ) (a : A) → readText f s ≡ accepted a → (isValid (f .clock a) && carries a) ≡ true
   passes s a e =
-      let r = read-accepts f s a e in
+      let r = read-passes f s a e in
       rw (r .1) (rw (read-valid s (r .0)) (d .carried s (r .0)))
 
   reads : (a : A) → (isValid (f .clock a) && carries a) ≡ true → readText f (f .text a) ≡ accepted a
   reads a e =
       let w = both (isValid (f .clock a)) (carries a) e in
-      accepts-read f (f .text a) (text-accepted a (w .0) (w .1)) ∙ rw (d .says a (w .0) (w .1))
+      passes-read f (f .text a) (text-passes a (w .0) (w .1)) ∙ rw (d .says a (w .0) (w .1))
 
   pub valid-answer : (s : List ℕ) (a : A) → readText f s ≡ accepted a → isValid (f .clock a) ≡ true
   valid-answer s a e = both (isValid (f .clock a)) (carries a) (passes s a e) .0

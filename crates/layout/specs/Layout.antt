@@ -43,7 +43,7 @@ allowed p b =
     (cond (eqb p free) true
     (cond (ltb p 65536) (eqb b 32 || eqb b (p % 256)) (eqb b 32 || eqb b (p / 256 % 256) || eqb b (p % 256)))))
 
--- "2 a fixed byte differs", "3 no digit in a digit place", "4 a flag place holds another character"
+-- 2: "a fixed byte differs"; 3: "no digit in a digit place"; 4: "a flag place holds another character"
 -- (01, Refusal numbers)
 unfoldable pub errorAt : ℕ → ℕ
 errorAt p = cond (ltb p 256) 2 (cond (eqb p digit) 3 4)
@@ -72,7 +72,8 @@ first k (p ∷ l) (b ∷ s) = cond (eqb (offence p b) k) 0 (suc (first k l s))
 abbrev pub found : ℕ → List ℕ → List ℕ → Bool
 found k l s = ltb (first k l s) (length l)
 
--- "Order for text: 1, 2, 3, 4" (01, Refusal numbers): the number of a string that does not fit its layout
+-- "Order for text: 1, 2, 3, 4" (01, Refusal numbers): the number of a string that does not fit its layout; 4 where it
+-- fits, which no reader asks
 unfoldable pub layoutError : List ℕ → List ℕ → ℕ
 layoutError l s = cond (eqb (length l) (length s)) (cond (found 2 l s) 2 (cond (found 3 l s) 3 4)) 1
 

@@ -43,7 +43,7 @@ clockFormat layout flagFault fields text =
       same = sameTime;
     }
 
--- "5 no such date", "6 no such time of day, second 60 rule included", "7 weekday outside 1..7" (01, Refusal numbers)
+-- 5: "no such date"; 6: "no such time of day, second 60 rule included"; 7: "weekday outside 1..7" (01, Refusal numbers)
 unfoldable pub clockChecks : ClockTime → Bool → List Check
 clockChecks t mismatch =
     given 5 (not (dateExists (t .year) (t .month) (t .day)))

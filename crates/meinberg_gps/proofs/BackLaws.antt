@@ -12,7 +12,7 @@ use Rattle.clock_time.proofs.Tests.{both}
 use Rattle.layout.specs.Ascii.{ascii}
 use Rattle.layout.specs.Layout.{allowed, FitsLayout, run, number, has}
 use Rattle.layout.specs.Text.{letter}
-use Rattle.layout.specs.Accepts.{Accepts}
+use Rattle.layout.proofs.AcceptLaws.{PassesText}
 use Rattle.layout.proofs.WriteLaws.{restore-fits, digits-number, digits-year, letter-back}
 use Rattle.gps_position.proofs.PositionBackLaws.{position-back}
 use Rattle.meinberg_pzf.specs.Pzf.{pzfText}
@@ -50,7 +50,7 @@ pzf-back {s} fit =
       letter-back "R" (getD s 37 0) (at 37 (lit< tt)),
     )
 
-agree : (a b : Bool) → not (Bool·beq a b) ≡ false → a ≡ b
+pub agree : (a b : Bool) → not (Bool·beq a b) ≡ false → a ≡ b
 agree true true h = refl
 agree true false h = absurd (true≢false h)
 agree false true h = absurd (true≢false h)
@@ -62,10 +62,10 @@ unfolding leapMismatch gpsLayout ascii allowed
 leap-back {s} fit h =
     rw (← (agree (has "L" 38 s) (eqb (number 2 20 s) 60) h)) (letter-back "L" (getD s 38 0) (fit .at 38 (lit< tt)))
 
-pub gps-back : (s : List ℕ) → Accepts gps s → gpsText (gpsFields s) ≡ s
+pub gps-back : (s : List ℕ) → PassesText gps s → gpsText (gpsFields s) ≡ s
 unfolding gpsText lineOf gpsFields gps clockOf gpsLayout ascii
 gps-back s r =
-    let fit = r .fits in
+    let fit = r .clock .fits in
     rw (
       pzf-back fit,
       offset-back fit (r .offset),

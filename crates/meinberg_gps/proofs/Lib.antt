@@ -2,5 +2,6 @@
 pub mod OffsetLaws
 pub mod ReadLaws
 pub mod BackLaws
+pub mod AcceptLaws
 pub mod GpsLaws
 pub mod Theorems

@@ -25,11 +25,11 @@ unfolding gpsLayout ascii
 offset-small h = omega (arith, number-below h 2 25 (lit≤ tt) refl, number-below h 2 28 (lit≤ tt) refl)
 
 -- ---- an offset without fault
-record Faultless (s : List ℕ) : Type 0 where
-  minutes : number 2 28 s ≤ 59
-  sign : signHolds 43 45 840 (getD s 24 0) (offsetSize s) ≡ true
+pub record Faultless (s : List ℕ) : Type 0 where
+  pub minutes : number 2 28 s ≤ 59
+  pub sign : signHolds 43 45 840 (getD s 24 0) (offsetSize s) ≡ true
 
-faultless : (s : List ℕ) → offsetFault s ≡ false → Faultless s
+pub faultless : (s : List ℕ) → offsetFault s ≡ false → Faultless s
 unfolding offsetFault
 faultless s h =
     let w = both (leb (number 2 28 s) 59) (signHolds 43 45 840 (getD s 24 0) (offsetSize s)) (not-false _ h) in

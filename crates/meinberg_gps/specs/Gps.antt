@@ -43,11 +43,11 @@ abbrev pub offsetSize : List ℕ → ℕ
 offsetSize s = 60 * number 2 25 s + number 2 28 s
 
 -- "Offset at most 14:00 either way, its minutes at most 59; `-00:00` is refused with 8." (01, Meinberg and ELV strings)
--- "8 offset sign or size" (01, Refusal numbers): so is a byte at 24 that is no sign.
+-- 8: "offset sign or size" (01, Refusal numbers), so a byte at 24 that is no sign too
 unfoldable pub offsetFault : List ℕ → Bool
 offsetFault s = not (leb (number 2 28 s) 59 && signHolds (code "+") (code "-") 840 (getD s 24 0) (offsetSize s))
 
--- the offset in minutes, with its sign
+-- "offset in minutes (local minus UTC, signed)" (01, The reading)
 unfoldable pub offsetOf : List ℕ → ℤ
 offsetOf s = signed (has "-" 24 s) (offsetSize s)
 
@@ -85,7 +85,7 @@ clockOf s =
 abbrev pub readClock : List ℕ → Position → Answer GpsTime
 readClock s p = checked (clockChecks (clockOf s) (leapMismatch s)) (record { time = clockOf s; position = p })
 
--- what a string says: a clock time and a position
+-- what a string says: "A GPS string adds position and height" (01, The reading) to a clock time
 unfoldable pub gpsFields : List ℕ → GpsTime
 gpsFields s = record { time = clockOf s; position = positionOf s }
 

@@ -1,2 +1,3 @@
--- The definitions that the contracts cite.
+-- The definitions that the contracts and the main results cite.
 pub mod Gps
+pub mod Accepts

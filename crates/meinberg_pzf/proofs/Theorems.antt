@@ -6,18 +6,17 @@ use mathlib.Core.List.{List}
 use Rattle.clock_time.specs.Errors.{accepted}
 use Rattle.clock_time.specs.Faithful.{Faithful}
 use Rattle.clock_time.specs.declared.ClockTime.{ClockTime}
-use Rattle.clock_time.proofs.SameLaws.{sameTime-refl, sameTime-true}
 use Rattle.calendar.specs.UnixTime.{isValid}
-use Rattle.layout.specs.Accepts.{Accepts}
 use Rattle.layout.proofs.DecideLaws.{clock-valid}
 use Rattle.layout.proofs.Theorems as text
-use Rattle.meinberg_pzf.specs.Pzf.{pzfFields, pzf, readPzf, writePzf}
+use Rattle.meinberg_pzf.specs.Pzf.{pzfLayout, pzfFields, pzfText, pzf, readPzf, writePzf}
+use Rattle.meinberg_pzf.specs.Accepts.{AcceptsPzf}
 use Rattle.meinberg_pzf.proofs.PzfLaws.{pzf-back, decides}
 
 -- demand 2: acceptance, the fields read, and what is written
-pub faithful : Faithful (Accepts pzf) pzfFields readPzf writePzf
+pub faithful : Faithful AcceptsPzf pzfFields readPzf writePzf
 unfolding readPzf writePzf pzf
-faithful = text.faithful pzf (λ s r. pzf-back s (r .fits)) sameTime-refl sameTime-true
+faithful = text.faithful-clock pzfLayout pzfFields pzfText pzf-back
 
 -- what is read is a valid reading
 pub valid-read : (s : List ℕ) (t : ClockTime) → readPzf s ≡ accepted t → isValid t ≡ true

@@ -50,11 +50,11 @@ standardFields s =
       «alternate_antenna» = false;
     }
 
--- the only letter of a zone, and the only one of what is announced, that could be read as an offset and these flags
+-- the only letter of a zone that could be read as an offset and a summer flag
 unfoldable pub zoneLetter : ℤ → Bool → ℕ
 zoneLetter offset summer = cond summer (code "S") (cond (eqℤ offset (pos 0)) (code "U") 32)
 
--- the letter of what is announced: `!` where both are
+-- the only letter of what is announced that could be read as these two flags; `!` where both are, which no letter says
 unfoldable pub announcedLetter : Bool → Bool → ℕ
 announcedLetter change leap = cond change (code "!") (letter leap "A")
 

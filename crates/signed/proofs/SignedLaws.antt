@@ -3,7 +3,8 @@ use Prim.Native.Nat.{ℕ, zero, suc, _^_, _≤_, _<_}
 use native.Mathlib.Nat.{zero-add}
 use native.Mathlib.Omega.{arith}
 use mathlib.Core.Path.{_≡_, refl, sym, _∙_}
-use mathlib.Core.Bool.{Bool, true, false, cond, not, _&&_, _||_, and-false, or-false, or-true, true≢false}
+use mathlib.Core.Logic.{_↔_, _⊎_, inl, inr, ⊎-elim}
+use mathlib.Core.Bool.{Bool, true, false, cond, not, _&&_, _||_, and-false, or-true, true≢false}
 use lib.Dec.{leb, eqb}
 use lib.IntN.{ℤ, pos, negsuc, negℤ, natAbs, _-ℤ_, +ℤ-idl}
 use lib.Pow.{pow-pos}
@@ -11,7 +12,7 @@ use lib.Signed.{mag, ltZ, nonNeg, natAbs-le}
 use mir.Syntax.{Width, w32, w64}
 use mir.Val.{SFits, toZ, ofZ, hbits}
 use mir.Facts.{toZ-ofZ, toZ-pos, sfits-widen}
-use borrow.Author.Tests.{eqb-true, leb-true, le-ltb, ltb-true, not-true, eq-eqb, ne-eqb, le-leb}
+use borrow.Author.Tests.{eqb-true, eqb-false, leb-true, le-ltb, ltb-true, not-true, eq-eqb, ne-eqb, le-leb}
 use Rattle.clock_time.proofs.Tests.{both}
 use Rattle.signed.specs.Signed.{signed, signHolds, signByte}
 
@@ -33,26 +34,50 @@ pub less-held : (w : Width) (n : ℕ) → n < 2 ^ hbits w → toZ w (ofZ w (toZ 
 less-held w n h = rw (zero-less w n h) (toZ-ofZ (signed-fits w true n h))
 
 -- ---- a size with its sign
-module _ (above below limit byte size : ℕ) (h : signHolds above below limit byte size ≡ true) where
-  pub record SignRules : Type 0 where
-    pub sign : (eqb byte above || eqb byte below) ≡ true
-    pub bound : size ≤ limit
-    pub zero-above : (eqb size 0 && eqb byte below) ≡ false
+-- the rules of a sign and a size, one by one
+pub record SignRules (above below limit byte size : ℕ) : Type 0 where
+  pub sign : (byte ≡ above) ⊎ (byte ≡ below)
+  pub most : size ≤ limit
+  pub zero : size ≡ 0 → byte ≡ below → ⊥
 
-  sign-rules : SignRules
+module _ (above below limit byte size : ℕ) where
+  one-of : (eqb byte above || eqb byte below) ≡ true → (byte ≡ above) ⊎ (byte ≡ below)
+  one-of h = go (eqb byte above) refl h
+    where
+      go : (t : Bool) → eqb byte above ≡ t → (t || eqb byte below) ≡ true → (byte ≡ above) ⊎ (byte ≡ below)
+      go true e h = inl (eqb-true byte above e)
+      go false e h = inr (eqb-true byte below h)
+
+  zero-above : SignRules above below limit byte size → (eqb size 0 && eqb byte below) ≡ false
+  zero-above r = go (eqb size 0) (eqb byte below) refl refl
+    where
+      go : (t u : Bool) → eqb size 0 ≡ t → eqb byte below ≡ u → (t && u) ≡ false
+      go true true e f = absurd (r .zero (eqb-true size 0 e) (eqb-true byte below f))
+      go true false e f = refl
+      go false u e f = refl
+
+  -- the test passes exactly if the rules hold
+  pub sign-exactly : (signHolds above below limit byte size ≡ true) ↔ SignRules above below limit byte size
   unfolding signHolds
-  sign-rules =
-      let sign = eqb byte above || eqb byte below in
-      let w = both (sign && leb size limit) (not (eqb size 0 && eqb byte below)) h in
-      let v = both sign (leb size limit) (w .0) in
-      record {
-        sign = v .0;
-        bound = leb-true size limit (v .1);
-        zero-above = not-true (eqb size 0 && eqb byte below) (w .1);
-      }
+  sign-exactly = (
+    λ h.
+        let sign = eqb byte above || eqb byte below in
+        let w = both (sign && leb size limit) (not (eqb size 0 && eqb byte below)) h in
+        let v = both sign (leb size limit) (w .0) in
+        let none = not-true (eqb size 0 && eqb byte below) (w .1) in
+        record {
+          sign = one-of (v .0);
+          most = leb-true size limit (v .1);
+          zero = λ e b. true≢false (rw (eq-eqb size 0 e, eq-eqb byte below b) at none);
+        },
+    λ r.
+        let one : (eqb byte above || eqb byte below) ≡ true =
+        ⊎-elim (λ e. rw (eq-eqb byte above e)) (λ e. rw (eq-eqb byte below e) (or-true (eqb byte above))) (r .sign) in
+        simp (one, le-leb size limit (r .most), zero-above r),
+  )
 
-  pub sign-limit : size ≤ limit
-  sign-limit = sign-rules .bound
+  pub sign-limit : signHolds above below limit byte size ≡ true → size ≤ limit
+  sign-limit h = sign-exactly .0 h .most
 
 signed-sign : (t : Bool) (n : ℕ) → (eqb n 0 && t) ≡ false → nonNeg (signed t n) ≡ not t
 unfolding signed
@@ -101,12 +126,13 @@ module _ {z : ℤ} (f : SFits w32 z) where
 pub sign-back : (above below limit byte size : ℕ) → signHolds above below limit byte size ≡ true
     → signByte above below (signed (eqb byte below) size) ≡ byte
 sign-back above below limit byte size h =
-    let r = sign-rules above below limit byte size h in
-    rw (signed-sign (eqb byte below) size (r .zero-above)) (go (eqb byte below) refl (r .sign))
+    let r = sign-exactly above below limit byte size .0 h in
+    rw (signed-sign (eqb byte below) size (zero-above above below limit byte size r))
+    (go (eqb byte below) refl (r .sign))
   where
-    go : (t : Bool) → eqb byte below ≡ t → (eqb byte above || t) ≡ true → cond (not t) above below ≡ byte
+    go : (t : Bool) → eqb byte below ≡ t → (byte ≡ above) ⊎ (byte ≡ below) → cond (not t) above below ≡ byte
     go true e s = sym (eqb-true byte below e)
-    go false e s = sym (eqb-true byte above (sym (or-false (eqb byte above)) ∙ s))
+    go false e s = ⊎-elim (λ a. sym a) (λ b. absurd (eqb-false byte below e b)) s
 
 -- ---- a number's own sign and size are read as it
 module _ (above below : ℕ) (differ : eqb above below ≡ false) where

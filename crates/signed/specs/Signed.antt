@@ -9,8 +9,8 @@ use lib.Signed.{nonNeg}
 unfoldable pub signed : Bool → ℕ → ℤ
 signed negative size = cond negative (negℤ (pos size)) (pos size)
 
--- the byte is one of two signs, the size is at most the limit, and a zero is not below zero: `-00:00` and a zero with S
--- or W are refused
+-- the byte is one of two signs, the size is at most the limit, and a zero is not below zero: "`-00:00` is refused with
+-- 8"; "a zero with S or W is refused" (01, Meinberg and ELV strings)
 unfoldable pub signHolds : ℕ → ℕ → ℕ → ℕ → ℕ → Bool
 signHolds above below limit byte size =
     (eqb byte above || eqb byte below) && leb size limit && not (eqb size 0 && eqb byte below)

@@ -1,0 +1,10 @@
+-- Which standard strings are accepted, as rules with no order. Assumes nothing.
+use Prim.Native.Nat.{ℕ}
+use mathlib.Core.List.{List}
+use Rattle.layout.specs.Accepts.{AcceptsClock}
+use Rattle.meinberg_standard.specs.Standard.{standardLayout, standardFields}
+
+-- "A string or a DCF77 minute is accepted exactly when the rules in document 01 hold" (demand 2): of a standard string
+-- they are those of every string with a clock time
+abbrev pub AcceptsStandard : List ℕ → Type 0
+AcceptsStandard s = AcceptsClock standardLayout (standardFields s) s

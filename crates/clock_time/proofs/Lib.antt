@@ -3,5 +3,6 @@ pub mod ErrorLaws
 pub mod ExitLaws
 pub mod SameLaws
 pub mod Tests
+pub mod CopyLaws
 pub mod WritingLaws
 pub mod BackLaws

@@ -23,12 +23,12 @@ abbrev pub outcomeAnswer : OutcomeAnswer → Answer ℕ
 outcomeAnswer (OutcomeAnswer.Number n) = accepted n
 outcomeAnswer (OutcomeAnswer.Refused e) = refused (errorNumber e)
 
--- "20 lent memory: [..] tape over 100,000"; "21 place at or past the tape's end" (01, Refusal numbers)
+-- 20: "lent memory: [..] tape over 100,000"; 21: "place at or past the tape's end" (01, Refusal numbers)
 unfoldable pub outcomeAt : List ℕ → ℕ → Answer ℕ
 outcomeAt marks place =
     checked (given 20 (ltb 100000 (length marks)) ∷ given 21 (leb (length marks) place) ∷ []) (rule marks place)
 
--- "20 lent memory: sheet and tape lengths differ, tape over 100,000" (01, Refusal numbers)
+-- 20: "lent memory: sheet and tape lengths differ, tape over 100,000" (01, Refusal numbers)
 abbrev pub unfit : ℕ → ℕ → Bool
 unfit marks outcomes = not (eqb marks outcomes) || ltb 100000 marks
 
@@ -67,7 +67,7 @@ correctAnswer (CorrectAnswer.Refused e) = refused (errorNumber e)
 abbrev pub correction : CorrectAnswer → List ℕ → List ℕ → Exit ℕ Recorded
 correction r marks outcomes = exit (correctAnswer r) (recorded marks outcomes)
 
--- "For a correction: 20, 21, 22."; "21 place at or past the tape's end"; "22 new mark above 3" (01, Refusal numbers)
+-- "For a correction: 20, 21, 22."; 21: "place at or past the tape's end"; 22: "new mark above 3" (01, Refusal numbers)
 abbrev pub correctionChecks : List ℕ → List ℕ → ℕ → ℕ → List Check
 correctionChecks marks outcomes place mark =
     given 20 (unfit (length marks) (length outcomes))

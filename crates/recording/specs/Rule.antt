@@ -10,7 +10,7 @@ use Rattle.recording.specs.Gaps.{isGap, gapBefore, gapAfter}
 abbrev pub runBetween : List ℕ → ℕ → ℕ → List ℕ
 runBetween marks earlier place = drop (suc earlier) (take place marks)
 
--- "10 gap with no earlier gap on the tape"; "on a tape 10 comes before these" (01, Refusal numbers)
+-- 10: "gap with no earlier gap on the tape"; "on a tape 10 comes before these" (01, Refusal numbers)
 abbrev pub gapNumber : (List ℕ → ℕ) → List ℕ → ℕ → Option ℕ → ℕ
 gapNumber number marks place none = 10
 gapNumber number marks place (some earlier) = number (runBetween marks earlier place)

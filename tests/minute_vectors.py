@@ -3,7 +3,7 @@ import random
 
 import minute_rules
 import rules
-from string_vectors import fields
+from string_vectors import KINDS, answer_of, fields, written
 
 HEAD = [0] * 18 + [1, 0, 1]
 P3 = HEAD + [int(mark) for mark in "10011100" "0010100" "00010011010001011000001"]
@@ -26,32 +26,20 @@ def flipped(m, *places):
     return [1 - mark if i in places else mark for i, mark in enumerate(m)]
 
 
-def minute_fields(r):
-    return f"{fields(r)} {r['marks']} {60 if r['sixty'] else 59}"
-
-
 # What each command answers: the line, and the answer.
 
 
 def read(m):
-    number, r = minute_rules.read_minute(m)
-    return f"minute {as_text(m)}", f"refused {number}" if number else minute_fields(r) + " same"
+    return f"read {KINDS['minute']}: {as_text(m)}", answer_of(*minute_rules.read_minute(m))
 
 
 def run(m):
-    return f"run {as_text(m)}", str(minute_rules.run_number(m))
+    return f"run: {as_text(m)}", str(minute_rules.run_number(m))
 
 
 def write(r, room):
     m = minute_rules.write_minute(r)
-    buffer = [9] * room
-    if m is None:
-        answer = "refused 23"
-    elif len(m) > room:
-        answer = "refused 20"
-    else:
-        answer, buffer = str(len(m)), m + buffer[len(m) :]
-    return f"write minute {minute_fields(r)} {room}", f"{answer} |{as_text(buffer)}|"
+    return written(f"write {KINDS['minute']} {fields(r)}", None if m is None else bytes(m), room, base=48)
 
 
 def both(m):

@@ -17,15 +17,18 @@ for _ in range(100_000):
 
 
 class Tape:
-    """Marks, and how a line names them: a digit for each, or `day` with how many of the long tape's first marks."""
+    """Marks, and how a line shows them: a digit for each, or no text at all for the long tape's first marks."""
 
-    def __init__(self, marks, name=None):
+    def __init__(self, marks, text=None):
         self.marks = list(marks)
-        self.name = "".join(map(str, marks)) if name is None else name
+        self.text = ": " + "".join(map(str, marks)) if text is None else text
+
+    def line(self, command, *numbers):
+        return " ".join(map(str, (command, len(self.marks), *numbers))) + self.text
 
 
 def day(length=DAY):
-    return Tape(recording_rules.day(length), f"day {length}")
+    return Tape(recording_rules.day(length), "")
 
 
 def total(numbers):
@@ -48,45 +51,40 @@ def number_at(sheet, place):
 
 
 def at(place, tape):
-    return f"at {place} {tape.name}", answer_of(recording_rules.outcome_at, tape.marks, place)
+    return tape.line("at", place), answer_of(recording_rules.outcome_at, tape.marks, place)
 
 
 def fill(count, tape):
-    """How many numbers are not 0, and the sum of the sheet, which held 7 everywhere."""
+    """How many numbers there are, and the sum of the sheet, which held 7 everywhere."""
     sheet = [7] * count
-    answer = answer_of(recording_rules.fill, tape.marks, sheet).replace("None", "filled")
-    return f"fill {count} {tape.name}", f"{answer} {count - sheet.count(0)} {total(sheet)}"
+    answer = answer_of(recording_rules.fill, tape.marks, sheet).replace("None", str(count))
+    return tape.line("fill", count), f"{answer} {total(sheet)}"
 
 
 def corrected(line, tape, sheet, place, mark):
-    """The numbers at the place and at the first gap after it, both sums, and whether the sheet is the one made anew."""
+    """The numbers at the place and at the first gap after it, then the sums of the tape, the sheet and the sheet made anew."""
     marks = list(tape.marks)
     answer = answer_of(recording_rules.correct, marks, sheet, place, mark)
     gap = recording_rules.next_gap(marks, place)
-    numbers = f"{number_at(sheet, place)} {number_at(sheet, len(marks) if gap is None else gap)}"
-    right = "right" if sheet == sheet_of(marks) else "wrong"
-    return f"{line} {tape.name}", f"{answer} {numbers} {total(marks)} {total(sheet)} {right}"
-
-
-def sheet_of(marks):
-    """A sheet of a tape that is too long is never made; it holds 0 then."""
-    if len(marks) > recording_rules.LONGEST:
-        return [0] * len(marks)
-    return recording_rules.sheet_of(marks)
+    numbers = f"{number_at(sheet, place)} {number_at(sheet, max(place + 1, len(marks)) if gap is None else gap)}"
+    sums = f"{total(marks)} {total(sheet)}"
+    answer_of(recording_rules.fill, marks, sheet)
+    return line, f"{answer} {numbers} {sums} {total(sheet)}"
 
 
 def correct(place, mark, tape):
-    return corrected(f"correct {place} {mark}", tape, sheet_of(tape.marks), place, mark)
+    sheet = recording_rules.sheet_of(tape.marks)
+    return corrected(tape.line("correct", len(sheet), place, mark), tape, sheet, place, mark)
 
 
 def mend(wrong_place, number, place, mark, tape):
-    sheet = sheet_of(tape.marks)
+    sheet = recording_rules.sheet_of(tape.marks)
     sheet[wrong_place] = number
-    return corrected(f"mend {wrong_place} {number} {place} {mark}", tape, sheet, place, mark)
+    return corrected(tape.line("mend", len(sheet), place, mark, wrong_place, number), tape, sheet, place, mark)
 
 
 def unfit(count, place, mark, tape):
-    return corrected(f"unfit {count} {place} {mark}", tape, [7] * count, place, mark)
+    return corrected(tape.line("unfit", count, place, mark), tape, [7] * count, place, mark)
 
 
 # The sections.

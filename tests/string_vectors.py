@@ -9,6 +9,10 @@ PZF = b"\x0208.11.06; 3; 14:39:39;        \x03"
 GPS = b"\x0209.07.93; 5; 08:48:26; +00:00;        ; 49.5736N  11.0280E  373m\x03"
 ELV = b"06-11-08-14-39-39-00\r"
 SAMPLES = {"standard": STANDARD, "pzf": PZF, "gps": GPS, "elv": ELV}
+# A kind by its number: those of the C header, and 4 for a DCF77 minute.
+KINDS = {"standard": 0, "pzf": 1, "gps": 2, "elv": 3, "minute": 4}
+FIELDS = ("year", "month", "day", "weekday", "hour", "minute", "second", "offset", *rules.FLAG_NAMES,
+          "latitude", "longitude", "height", "marks", "sixty")
 
 
 def as_text(s):
@@ -22,33 +26,30 @@ def put(s, at, text):
 
 
 def fields(r):
-    flags = "".join(letter if r[name] else "-" for name, letter in zip(rules.FLAG_NAMES, rules.FLAG_LETTERS))
-    numbers = [r[k] for k in ("year", "month", "day", "weekday", "hour", "minute", "second", "offset")]
-    text = " ".join(map(str, numbers)) + " " + flags
-    if "height" in r:
-        text += f" {r['latitude']} {r['longitude']} {r['height']}"
-    return text
+    """The numbers of a reading; a flag is 1 or 0."""
+    return " ".join(str(int(r[name])) for name in FIELDS if name in r)
 
 
 # What each command answers: the line, and the answer.
 
 
-def read(kind, s):
+def answer_of(number, r):
     """What was read is written back as the same bytes."""
-    number, r = rules.READERS[kind](s)
-    return f"{kind} {as_text(s)}", f"refused {number}" if number else fields(r) + " same"
+    return f"refused {number}" if number else f"{fields(r)} same"
+
+
+def read(kind, s):
+    return f"read {KINDS[kind]}: {as_text(s)}", answer_of(*rules.READERS[kind](s))
 
 
 def tell(s):
     kind = rules.kind_of(s)
-    if kind is None:
-        return f"read {as_text(s)}", "refused 1"
-    number, r = rules.READERS[kind](s)
-    return f"read {as_text(s)}", f"{kind} " + (f"refused {number}" if number else fields(r))
+    answer = "refused 1" if kind is None else f"{KINDS[kind]} {answer_of(*rules.READERS[kind](s))}"
+    return f"kind: {as_text(s)}", answer
 
 
-def written(line, text, room):
-    """23, then 20; else the first places are filled, and nothing after them changes."""
+def written(line, text, room, base=0):
+    """23, then 20; else the first places are filled, and nothing after them changes. A byte is shown with `base` added."""
     buffer = b"." * room
     if text is None:
         answer = "refused 23"
@@ -56,20 +57,20 @@ def written(line, text, room):
         answer = "refused 20"
     else:
         answer, buffer = str(len(text)), text + buffer[len(text) :]
-    return f"{line} {room}", f"{answer} |{as_text(buffer)}|"
+    return f"{line} {room}", f"{answer} |{as_text(b + base for b in buffer)}|"
 
 
 def write(kind, r, room):
-    return written(f"write {kind} {fields(r)}", rules.write(kind, r), room)
+    return written(f"write {KINDS[kind]} {fields(r)}", rules.write(kind, r), room)
 
 
 def digits(text):
     """At most 19 digits; else the place of the first byte that is none."""
     s = text.encode()
     if len(s) > 19:
-        return f"digits {text}", "refused 1"
+        return f"digits: {text}", "refused 1"
     bad = [i for i, b in enumerate(s) if not 48 <= b <= 57]
-    return f"digits {text}", f"refused 3 at {bad[0]}" if bad else str(int(text or "0"))
+    return f"digits: {text}", f"refused 3 at {bad[0]}" if bad else str(int(text or "0"))
 
 
 def number(value, count, room):

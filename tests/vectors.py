@@ -25,13 +25,13 @@ EPOCH = datetime(1970, 1, 1)
 # What each command answers: the line, and the answer.
 
 
-def error():
+def error(place):
     """Document 01 numbers its refusals from 1 to 23, in the order of its table."""
-    return "error", " ".join(str(number) for number in range(1, 24))
+    return f"error {place}", str(place + 1)
 
 
 def leap(year):
-    return f"leap {year}", yes_no(calendar.isleap(year))
+    return f"leap {year}", truth(calendar.isleap(year))
 
 
 def month(year, month):
@@ -39,7 +39,7 @@ def month(year, month):
 
 
 def exists(year, month, day):
-    return f"date {year} {month} {day}", yes_no(date_exists(year, month, day))
+    return f"date {year} {month} {day}", truth(date_exists(year, month, day))
 
 
 def year(digits):
@@ -63,7 +63,7 @@ def weekday(year, month, day):
 
 
 def time(hour, minute, second, offset):
-    return f"time {hour} {minute} {second} {offset}", yes_no(time_exists(hour, minute, second, offset))
+    return f"time {hour} {minute} {second} {offset}", truth(time_exists(hour, minute, second, offset))
 
 
 def unix(year, month, day, weekday, hour, minute, second, offset):
@@ -83,8 +83,8 @@ def not_understood(line):
 # The rules that several commands share.
 
 
-def yes_no(truth):
-    return "yes" if truth else "no"
+def truth(holds):
+    return "1" if holds else "0"
 
 
 def month_length(year, month):
@@ -120,7 +120,8 @@ def last_minute(offset):
 
 def errors():
     yield "The numbers of the errors, in the order of document 01"
-    yield error()
+    for place in range(23):
+        yield error(place)
 
 
 def leap_years():
@@ -296,7 +297,7 @@ def lines_not_understood():
     for line in (
         "leap", "leap ", "leap x", "leap 2000 1", "leap 2000x", "leap +4", "leap 0x10", "leap -", "Leap 2000",
         "leapyear 2000", "month 2000", "month 2000 1 1", "date 2000 1", "year", "time 0 0 0", "time 0 0 0 -",
-        "time 0 0 0 --1", "time 0 0 0 +1", "unix 2006 11 8 3 14 39 39", "unix 2006 11 8 3 14 39 39 0 0", "error 1",
+        "time 0 0 0 --1", "time 0 0 0 +1", "unix 2006 11 8 3 14 39 39", "unix 2006 11 8 3 14 39 39 0 0", "error",
         "errors", "erro", "? 1", "=", "x",
     ):
         yield not_understood(line)
@@ -322,8 +323,8 @@ def check_against_document():
     """What document 01 itself names."""
     assert unix(2006, 11, 8, 3, 14, 39, 39, 0)[1] == "1162996779"
     assert unix(1970, 1, 1, 4, 0, 0, 0, 60)[1] == "-3600"
-    assert exists(2000, 2, 29)[1] == "yes" and exists(2001, 2, 29)[1] == "no"
-    assert time(24, 0, 0, 0)[1] == "no" and time(0, 59, 60, 60)[1] == "yes"
+    assert exists(2000, 2, 29)[1] == "1" and exists(2001, 2, 29)[1] == "0"
+    assert time(24, 0, 0, 0)[1] == "0" and time(0, 59, 60, 60)[1] == "1"
 
 
 def main():

@@ -1,10 +1,6 @@
 // A recording that is made with the minute writer: whole minutes from the one that announces 8 November 2006 00:00 on,
 // a gap after each, and unsure marks where no further minute fits. The first 86,400 marks are a day.
-use clock_time::ClockTime;
-use clock_time::Error;
-use clock_time::MinuteDetail;
-use clock_time::WriteAnswer;
-use dcf77::MinuteTime;
+use radio_clock::minutes::radio_clock_write_minute;
 
 pub type Recording = [u8; 100001];
 
@@ -14,57 +10,52 @@ const MINUTES: u32 = 1700;
 // The minute of the second day that has a leap second.
 const LEAP: u32 = 1500;
 
-fn offset_of(summer: bool) -> i16 {
+fn number(x: u32) -> i32 {
+    (x % 65536) as i32
+}
+
+fn flag(on: bool) -> i32 {
+    if on { 1 } else { 0 }
+}
+
+fn offset(summer: bool) -> i32 {
     if summer { 120 } else { 60 }
 }
 
 // What the minute of this number announces. Summer time ends after three hours.
-fn time_at(i: u32) -> ClockTime {
+fn minute_at(i: u32) -> [i32; 16] {
     let summer = i < 180;
     let day = i / 1440 % 4;
-    ClockTime {
-        year: 2006,
-        month: 11,
-        day: (8 + day) as u8,
-        weekday: (3 + day) as u8,
-        hour: (i / 60 % 24) as u8,
-        minute: (i % 60) as u8,
-        second: 0,
-        utc_offset: offset_of(summer),
-        unsynchronised: false,
-        unverified: false,
-        summer_time: summer,
-        dst_change_announced: i / 60 == 2,
-        leap_second_announced: (1440 < i) & (i <= LEAP),
-        alternate_antenna: i % 7 == 0,
-    }
+    [
+        2006,
+        11,
+        number(8 + day),
+        number(3 + day),
+        number(i / 60 % 24),
+        number(i % 60),
+        0,
+        offset(summer),
+        0,
+        0,
+        flag(summer),
+        flag(i / 60 == 2),
+        flag((1440 < i) & (i <= LEAP)),
+        flag(i % 7 == 0),
+        number(i % 16384),
+        flag(i == LEAP),
+    ]
 }
 
-fn minute_at(i: u32) -> MinuteTime {
-    let time = time_at(i);
-    let detail = MinuteDetail {
-        marks: (i % 16384) as u16,
-        sixty: i == LEAP,
-    };
-    MinuteTime { time, detail }
-}
-
-fn write_at(m: &mut [u8], at: usize, a: MinuteTime) -> WriteAnswer {
-    if m.len() < at {
-        return WriteAnswer::Refused(Error::LentMemory);
-    }
-    dcf77_writer::write_minute(a, &mut m[at..])
-}
-
-// Puts a mark, and returns the place after it; nothing past the end.
-pub fn put_mark(m: &mut Recording, at: usize, mark: u8) -> usize {
+// Writes a minute from `at` on, and returns how many marks it has; none where it has no room.
+fn write_at(m: &mut [u8], at: usize, fields: &[i32]) -> usize {
+    let mut count = 0;
     if at < m.len() {
-        m[at] = mark;
-        return at + 1;
+        radio_clock_write_minute(fields, &mut m[at..], &mut count);
     }
-    at
+    count
 }
 
+// The place after so many marks from `at` on, which are a minute's.
 fn place_after(at: usize, count: usize) -> usize {
     if at < 100001 {
         if count <= 60 {
@@ -75,18 +66,25 @@ fn place_after(at: usize, count: usize) -> usize {
 }
 
 // Puts a minute and a gap, and returns the place after them; nothing where the minute has no room.
-fn put_minute(m: &mut Recording, at: usize, a: MinuteTime) -> usize {
-    match write_at(m, at, a) {
-        WriteAnswer::Written(count) => put_mark(m, place_after(at, count), 2),
-        WriteAnswer::Refused(_) => at,
+fn put_minute(m: &mut Recording, at: usize, i: u32) -> usize {
+    let fields = minute_at(i);
+    let count = write_at(m, at, &fields);
+    if count == 0 {
+        return at;
     }
+    let gap = place_after(at, count);
+    if gap < 100001 {
+        m[gap] = 2;
+        return gap + 1;
+    }
+    gap
 }
 
 pub fn make(m: &mut Recording) {
     let mut at = 0;
     let mut i = 0;
     while i < MINUTES {
-        at = put_minute(m, at, minute_at(i));
+        at = put_minute(m, at, i);
         i += 1;
     }
 }

@@ -1,9 +1,9 @@
 // The commands on runs of digits: `digits` reads one, `number` writes one into a lent buffer.
-use crate::fields::Fields;
+use crate::numbers;
+use crate::numbers::Numbers;
 use crate::output;
 use crate::output::Buffer;
 use crate::text;
-use crate::text::Text;
 use clock_time::WriteAnswer;
 use decimal::DigitsRead;
 
@@ -18,43 +18,37 @@ fn put_read(out: &mut Buffer, n: usize, answer: DigitsRead) -> usize {
     }
 }
 
-fn put_digits(out: &mut Buffer, n: usize, t: Text) -> usize {
-    let bytes = t.bytes;
-    let length = t.length;
-    put_read(out, n, decimal::read_digits(text::first(&bytes, length)))
-}
-
-fn digits(line: &[u8], out: &mut Buffer, n: usize) -> usize {
-    let f = Fields::read(line, b"digits T");
-    if f.fits {
-        return put_digits(out, n, text::decode(line, f.place_at(0)));
+fn put_written(out: &mut Buffer, n: usize, answer: WriteAnswer) -> usize {
+    match answer {
+        WriteAnswer::Written(count) => output::put_number(out, n, count as u64),
+        WriteAnswer::Refused(e) => output::put_answer(out, n, clock_time::error_number(e), 0),
     }
-    n
 }
 
 // Writes into the first `room` bytes of the space, or into all where they are fewer.
-fn write(f: Fields, space: &mut [u8], room: usize) -> WriteAnswer {
-    let number = f.u64_at(0);
-    let count = f.place_at(1);
+fn write(number: u64, count: usize, space: &mut [u8], room: usize) -> WriteAnswer {
     if space.len() < room {
         return decimal::write_digits(number, count, space);
     }
     decimal::write_digits(number, count, &mut space[0..room])
 }
 
-fn number(line: &[u8], out: &mut Buffer, n: usize) -> usize {
-    let f = Fields::read(line, b"number N N N");
-    if f.fits {
+// Puts the answer to a command of this module, and nothing for any other word.
+pub fn answer(word: &[u8], v: &Numbers, text: &[u8], out: &mut Buffer, n: usize) -> usize {
+    if numbers::is_command(word, b"digits", v, b"") {
+        return put_read(out, n, decimal::read_digits(text));
+    }
+    if numbers::is_command(word, b"number", v, b"NNN") {
         let mut space = [b'.'; 80];
-        let room = f.place_at(2);
-        let answer = write(f, &mut space, room);
-        return output::put_written(out, n, answer, text::first(&space, room));
+        let room = numbers::at(v, 3) as usize;
+        let answer = write(
+            numbers::at(v, 1),
+            numbers::at(v, 2) as usize,
+            &mut space,
+            room,
+        );
+        let m = put_written(out, n, answer);
+        return output::put_text(out, m, text::first(&space, room), 0);
     }
     n
-}
-
-// Puts the answer to a command of this module, and nothing for any other line.
-pub fn answer(line: &[u8], out: &mut Buffer, at: usize) -> usize {
-    let n = digits(line, out, at);
-    number(line, out, n)
 }

@@ -1,23 +1,16 @@
-// Runs a table of commands: writes each line of standard input with what the library answers. Headings, which start
-// with `#`, and empty lines are only copied.
+// Runs a table of commands: writes each line of standard input with what the library answers. A command is a word, then
+// numbers, each after a blank, and perhaps a text, after a colon and a blank. Headings, which start with `#`, and empty
+// lines are only copied.
 mod dates;
 mod day;
 mod digits;
-mod errors;
-mod fields;
-mod flags;
-mod lines;
-mod marks;
-mod minutes;
 mod numbers;
-mod outcomes;
 mod output;
 mod recordings;
 mod strings;
 mod text;
-mod times;
-mod written;
 
+use crate::numbers::Numbers;
 use crate::output::Buffer;
 use libc::STDIN_FILENO;
 
@@ -26,23 +19,25 @@ type Table = [u8; 1048576];
 // So many bytes are worth a write. The buffer has as much room again, for one more line and its answer.
 const ENOUGH: usize = 32768;
 
-// Puts the answer to a command, and nothing for any other line. No line is two commands, so the order is free.
-fn answer(line: &[u8], out: &mut Buffer, at: usize) -> usize {
+// Puts the answer to a command, and nothing for any other word.
+fn answer(word: &[u8], v: &Numbers, text: &[u8], out: &mut Buffer, at: usize) -> usize {
     let mut n = at;
-    n = errors::answer(line, out, n);
-    n = dates::answer(line, out, n);
-    n = digits::answer(line, out, n);
-    n = times::answer(line, out, n);
-    n = strings::answer(line, out, n);
-    n = written::answer(line, out, n);
-    n = minutes::answer(line, out, n);
-    recordings::answer(line, out, n)
+    n = dates::answer(word, v, out, n);
+    n = digits::answer(word, v, text, out, n);
+    n = strings::answer(word, v, text, out, n);
+    recordings::answer(word, v, text, out, n)
 }
 
 // Puts the answer to a line, a question mark where it is no command.
 fn put_answer(line: &[u8], out: &mut Buffer, at: usize) -> usize {
     let n = output::put_all(out, at, b" = ");
-    let end = answer(line, out, n);
+    let colon = text::place_of(line, 0, b':');
+    let head = text::first(line, colon);
+    let blank = text::place_of(head, 0, b' ');
+    let mut v = [0u64; 24];
+    numbers::read_all(head, blank, &mut v);
+    let word = text::first(head, blank);
+    let end = answer(word, &v, text::after(line, colon), out, n);
     if end == n {
         return output::put(out, n, b'?');
     }
@@ -51,7 +46,7 @@ fn put_answer(line: &[u8], out: &mut Buffer, at: usize) -> usize {
 
 fn put_line(line: &[u8], out: &mut Buffer, at: usize) -> usize {
     let mut n = output::put_all(out, at, line);
-    if !lines::is_heading(line) {
+    if !text::is_heading(line) {
         n = put_answer(line, out, n);
     }
     output::put(out, n, b'\n')
@@ -63,7 +58,7 @@ fn answer_lines(s: &[u8]) -> bool {
     let mut n = 0;
     let mut at = 0;
     while at < s.len() {
-        let end = lines::line_end(s, at);
+        let end = text::place_of(s, at, b'\n');
         n = put_line(&s[at..end], &mut out, n);
         if ENOUGH < n {
             if !output::write(&out, n) {

@@ -1,8 +1,5 @@
 // Text on its way to standard output: a lent buffer, and how many of its bytes are in use. Each `put` function adds
 // text, and returns how many are in use then; what finds no room is left out.
-use crate::text;
-use clock_time::Error;
-use clock_time::WriteAnswer;
 use libc::STDOUT_FILENO;
 
 pub type Buffer = [u8; 65536];
@@ -39,14 +36,6 @@ fn magnitude(value: i64) -> u64 {
     value as u64
 }
 
-pub fn wide(value: i16) -> i64 {
-    value as i64
-}
-
-pub fn wide_i32(value: i32) -> i64 {
-    value as i64
-}
-
 pub fn put_signed(out: &mut Buffer, at: usize, value: i64) -> usize {
     let mut n = at;
     if value < 0 {
@@ -55,30 +44,49 @@ pub fn put_signed(out: &mut Buffer, at: usize, value: i64) -> usize {
     put_number(out, n, magnitude(value))
 }
 
-pub fn put_truth(out: &mut Buffer, n: usize, value: bool) -> usize {
-    if value {
-        return put_all(out, n, b"yes");
-    }
-    put_all(out, n, b"no")
+fn wide(value: i32) -> i64 {
+    value as i64
 }
 
-pub fn put_error(out: &mut Buffer, at: usize, e: Error) -> usize {
+// Puts numbers, and a blank after each.
+pub fn put_fields(out: &mut Buffer, at: usize, fields: &[i32]) -> usize {
+    let mut n = at;
+    let mut i = 0;
+    while i < fields.len() {
+        n = put_signed(out, n, wide(fields[i]));
+        n = put(out, n, b' ');
+        i += 1;
+    }
+    n
+}
+
+// Puts the number that a call left, or that of its refusal, which is not 0.
+pub fn put_answer(out: &mut Buffer, at: usize, refusal: u8, value: u64) -> usize {
+    if refusal == 0 {
+        return put_number(out, at, value);
+    }
     let n = put_all(out, at, b"refused ");
-    put_number(out, n, clock_time::error_number(e) as u64)
+    put_number(out, n, refusal as u64)
 }
 
-pub fn put_write_answer(out: &mut Buffer, n: usize, answer: WriteAnswer) -> usize {
-    match answer {
-        WriteAnswer::Written(count) => put_number(out, n, count as u64),
-        WriteAnswer::Refused(e) => put_error(out, n, e),
+fn put_byte(out: &mut Buffer, at: usize, b: u8) -> usize {
+    if (b < 32) | (126 < b) | (b == b'%') {
+        let n = put(out, at, b'%');
+        let mut digits = [0u8; 16];
+        let k = io::hex(b as u64, 2, &mut digits);
+        return put_all(out, n, &digits[..k]);
     }
+    put(out, at, b)
 }
 
-// Puts a writer's answer, and between bars the buffer that it was lent.
-pub fn put_written(out: &mut Buffer, at: usize, answer: WriteAnswer, buffer: &[u8]) -> usize {
-    let mut n = put_write_answer(out, at, answer);
-    n = put_all(out, n, b" |");
-    n = text::put(out, n, buffer);
+// Puts bytes as text, between bars, each with `base` added.
+pub fn put_text(out: &mut Buffer, at: usize, s: &[u8], base: u8) -> usize {
+    let mut n = put_all(out, at, b" |");
+    let mut i = 0;
+    while i < s.len() {
+        n = put_byte(out, n, std::num::wrapping_add_u8(s[i], base));
+        i += 1;
+    }
     put(out, n, b'|')
 }
 

@@ -1,144 +1,55 @@
-// The commands on recordings, which stand last in the line: a digit for each mark, or `day` with how many marks of the
-// recording of the module `day` it has. `at` gives the number at a place, `fill` makes a sheet of so many numbers,
-// `correct` puts a mark at a place where the sheet is right, `mend` where a number at a place of it is wrong, and
-// `unfit` where it has so many numbers that hold 7.
+// The commands on recordings. The numbers start with the length of the recording and that of its sheet; the text has a
+// digit for each mark and, where it is empty, the marks are those of the module `day`. `at` has the place for the sheet's length
+// and gives the number there; `fill` makes the sheet; `correct` puts at a place a mark where the sheet is right, `mend` where
+// a number was put at a place of the sheet, and `unfit` where the sheet holds 7 everywhere.
 use crate::day;
 use crate::day::Recording;
-use crate::fields::Fields;
-use crate::outcomes;
-use crate::outcomes::Outcomes;
+use crate::numbers;
+use crate::numbers::Numbers;
+use crate::numbers::is_command;
 use crate::output;
 use crate::output::Buffer;
 use crate::text;
-use recording::CorrectAnswer;
-use recording::FillAnswer;
-use recording::OutcomeAnswer;
+use radio_clock::recordings::radio_clock_correct_mark;
+use radio_clock::recordings::radio_clock_fill_outcomes;
+use radio_clock::recordings::radio_clock_outcome_at;
 
-// No place of a recording.
-const NOWHERE: usize = 100001;
+type Outcomes = [u32; 100001];
 
-// Puts the marks that the digits stand for, and returns how many they are.
-fn load_digits(digits: &[u8], m: &mut Recording) -> usize {
-    let mut n = 0;
+// A sum with one more number. It depends on the order too.
+fn add(sum: u64, number: u32) -> u64 {
+    (sum % 4294967296 * 16777619 + number as u64) % 4294967296
+}
+
+fn put_sum(out: &mut Buffer, at: usize, o: &[u32]) -> usize {
+    let mut sum = 0;
     let mut i = 0;
-    while i < digits.len() {
-        n = day::put_mark(m, n, digits[i] % 16);
+    while i < o.len() {
+        sum = add(sum, o[i]);
         i += 1;
     }
-    n
-}
-
-// Puts the marks of a recording, and returns how many they are.
-fn load(words: &[u8], m: &mut Recording) -> usize {
-    let f = Fields::read(words, b"day N");
-    if f.fits {
-        day::make(m);
-        return f.place_at(0);
-    }
-    load_digits(words, m)
-}
-
-fn put_outcome(out: &mut Buffer, n: usize, answer: OutcomeAnswer) -> usize {
-    match answer {
-        OutcomeAnswer::Number(number) => output::put_number(out, n, number as u64),
-        OutcomeAnswer::Refused(e) => output::put_error(out, n, e),
-    }
-}
-
-fn put_at(out: &mut Buffer, n: usize, m: &Recording, length: usize, place: usize) -> usize {
-    put_outcome(out, n, recording::outcome_at(text::first(m, length), place))
-}
-
-fn at(line: &[u8], out: &mut Buffer, n: usize) -> usize {
-    let f = Fields::read(line, b"at N T");
-    if f.fits {
-        let mut m = [3u8; 100001];
-        let length = load(text::rest(line, f.place_at(1)), &mut m);
-        return put_at(out, n, &m, length, f.place_at(0));
-    }
-    n
-}
-
-// Fills the first `count` outcomes, or all where they are fewer.
-fn fill_first(m: &[u8], o: &mut [u32], count: usize) -> FillAnswer {
-    if o.len() < count {
-        return recording::fill_outcomes(m, o);
-    }
-    recording::fill_outcomes(m, &mut o[0..count])
-}
-
-fn fill_outcomes(m: &Recording, length: usize, o: &mut Outcomes, count: usize) -> FillAnswer {
-    fill_first(text::first(m, length), o, count)
-}
-
-fn put_fill_answer(out: &mut Buffer, n: usize, answer: FillAnswer) -> usize {
-    match answer {
-        FillAnswer::Filled => output::put_all(out, n, b"filled"),
-        FillAnswer::Refused(e) => output::put_error(out, n, e),
-    }
-}
-
-fn put_field(out: &mut Buffer, at: usize, value: u64) -> usize {
     let n = output::put(out, at, b' ');
-    output::put_number(out, n, value)
+    output::put_number(out, n, sum)
 }
 
-// Puts how many outcomes are not 0, and the sum of all.
-fn put_outcomes(out: &mut Buffer, at: usize, o: &[u32]) -> usize {
-    let n = put_field(out, at, outcomes::count(o) as u64);
-    put_field(out, n, outcomes::sum(o))
+fn add_mark(sum: u64, mark: u8) -> u64 {
+    add(sum, mark as u32)
 }
 
-fn put_filled(
-    out: &mut Buffer,
-    at: usize,
-    answer: FillAnswer,
-    o: &Outcomes,
-    count: usize,
-) -> usize {
-    let n = put_fill_answer(out, at, answer);
-    put_outcomes(out, n, outcomes::first(o, count))
-}
-
-fn fill(line: &[u8], out: &mut Buffer, n: usize) -> usize {
-    let f = Fields::read(line, b"fill N T");
-    if f.fits {
-        let mut m = [3u8; 100001];
-        let mut o = [7u32; 100001];
-        let length = load(text::rest(line, f.place_at(1)), &mut m);
-        let answer = fill_outcomes(&m, length, &mut o, f.place_at(0));
-        return put_filled(out, n, answer, &o, f.place_at(0));
+fn put_sum_of_marks(out: &mut Buffer, at: usize, m: &[u8]) -> usize {
+    let mut sum = 0;
+    let mut i = 0;
+    while i < m.len() {
+        sum = add_mark(sum, m[i]);
+        i += 1;
     }
-    n
-}
-
-// Corrects the first `length` marks and the first `count` outcomes, or all where they are fewer.
-fn correct_first(
-    m: &mut [u8],
-    length: usize,
-    o: &mut [u32],
-    count: usize,
-    place: usize,
-    mark: u8,
-) -> CorrectAnswer {
-    if m.len() < length {
-        return recording::correct_mark(m, o, place, mark);
-    }
-    if o.len() < count {
-        return recording::correct_mark(m, o, place, mark);
-    }
-    recording::correct_mark(&mut m[0..length], &mut o[0..count], place, mark)
-}
-
-fn put_correct_answer(out: &mut Buffer, n: usize, answer: CorrectAnswer) -> usize {
-    match answer {
-        CorrectAnswer::Corrected(count) => output::put_number(out, n, count as u64),
-        CorrectAnswer::Refused(e) => output::put_error(out, n, e),
-    }
+    let n = output::put(out, at, b' ');
+    output::put_number(out, n, sum)
 }
 
 fn put_pair(out: &mut Buffer, at: usize, place: usize, number: u32) -> usize {
-    let mut n = put_field(out, at, place as u64);
+    let mut n = output::put(out, at, b' ');
+    n = output::put_number(out, n, place as u64);
     n = output::put(out, n, b':');
     output::put_number(out, n, number as u64)
 }
@@ -151,126 +62,160 @@ fn put_number_at(out: &mut Buffer, at: usize, o: &[u32], place: usize) -> usize 
     output::put_all(out, at, b" -")
 }
 
-// Puts the numbers at a place and at the first gap after it, then the sums of the marks and of the outcomes.
-fn put_left(out: &mut Buffer, at: usize, m: &[u8], o: &[u32], place: usize) -> usize {
-    let mut n = put_number_at(out, at, o, place);
-    n = put_number_at(out, n, o, outcomes::next_gap(m, place));
-    n = put_field(out, n, outcomes::sum_of_marks(m));
-    put_field(out, n, outcomes::sum(o))
-}
-
-// Puts whether the outcomes are those that are made anew for the marks.
-fn put_right(
-    out: &mut Buffer,
-    n: usize,
-    m: &Recording,
-    length: usize,
-    o: &[u32],
-    anew: &mut Outcomes,
-) -> usize {
-    fill_outcomes(m, length, anew, length);
-    if outcomes::same(o, outcomes::first(anew, length)) {
-        return output::put_all(out, n, b" right");
+// The first n outcomes, or all where they are fewer.
+fn first(o: &[u32], n: usize) -> &[u32] {
+    if o.len() < n {
+        return o;
     }
-    output::put_all(out, n, b" wrong")
+    &o[0..n]
 }
 
-// Puts what a correction answers, and what it leaves of the marks and the outcomes.
-fn put_corrected(
-    out: &mut Buffer,
-    at: usize,
-    m: &mut Recording,
+fn put_at(out: &mut Buffer, n: usize, m: &[u8], place: usize) -> usize {
+    let mut number = 0;
+    let refusal = radio_clock_outcome_at(m, place, &mut number);
+    output::put_answer(out, n, refusal, number as u64)
+}
+
+// Fills the first `count` outcomes, or all where they are fewer.
+fn fill_first(m: &[u8], o: &mut [u32], count: usize) -> u8 {
+    if o.len() < count {
+        return radio_clock_fill_outcomes(m, o);
+    }
+    radio_clock_fill_outcomes(m, &mut o[0..count])
+}
+
+fn fill(v: &Numbers, m: &Recording, o: &mut Outcomes) -> u8 {
+    fill_first(text::first(m, v[1] as usize), o, v[2] as usize)
+}
+
+// Corrects the first `length` marks and the first `count` outcomes, or all where they are fewer.
+fn correct_first(
+    m: &mut [u8],
     length: usize,
-    o: &mut Outcomes,
+    o: &mut [u32],
     count: usize,
     place: usize,
     mark: u8,
+    changed: &mut usize,
+) -> u8 {
+    if m.len() < length {
+        return radio_clock_correct_mark(m, o, place, mark, changed);
+    }
+    if o.len() < count {
+        return radio_clock_correct_mark(m, o, place, mark, changed);
+    }
+    radio_clock_correct_mark(&mut m[0..length], &mut o[0..count], place, mark, changed)
+}
+
+fn put_correction(
+    out: &mut Buffer,
+    n: usize,
+    v: &Numbers,
+    m: &mut Recording,
+    o: &mut Outcomes,
 ) -> usize {
-    let answer = correct_first(m, length, o, count, place, mark);
-    let mut n = put_correct_answer(out, at, answer);
+    let mut changed = 0;
+    let mark = numbers::u8_at(v, 4);
+    let refusal = correct_first(
+        m,
+        v[1] as usize,
+        o,
+        v[2] as usize,
+        v[3] as usize,
+        mark,
+        &mut changed,
+    );
+    output::put_answer(out, n, refusal, changed as u64)
+}
+
+// Puts the numbers at a place and at the first gap after it, then the sums of the marks and of the outcomes.
+fn put_left(out: &mut Buffer, at: usize, m: &[u8], o: &[u32], place: usize) -> usize {
+    let mut n = put_number_at(out, at, o, place);
+    let gap = text::place_of(m, std::num::wrapping_add_usize(place, 1), 2);
+    n = put_number_at(out, n, o, gap);
+    n = put_sum_of_marks(out, n, m);
+    put_sum(out, n, o)
+}
+
+// Puts what a correction answers, what it leaves, and the sum of the outcomes once they are made anew.
+fn put_corrected(
+    out: &mut Buffer,
+    at: usize,
+    v: &Numbers,
+    m: &mut Recording,
+    o: &mut Outcomes,
+) -> usize {
+    let length = v[1] as usize;
+    let count = v[2] as usize;
+    let mut n = put_correction(out, at, v, m, o);
     n = put_left(
         out,
         n,
         text::first(m, length),
-        outcomes::first(o, count),
-        place,
+        first(o, count),
+        v[3] as usize,
     );
-    let mut anew = [0u32; 100001];
-    put_right(out, n, m, length, outcomes::first(o, count), &mut anew)
+    fill(v, m, o);
+    put_sum(out, n, first(o, count))
 }
 
-// Puts what a correction answers, and leaves, where the outcomes are right but for a number put at a place of them.
-fn put_mended(
+// Puts a number at a place, and nothing past the end.
+fn put_outcome(o: &mut Outcomes, at: usize, number: u64) {
+    if at < 100001 {
+        o[at] = (number % 4294967296) as u32;
+    }
+}
+
+// Puts the answer to a command for these marks and outcomes.
+fn put_lent(
+    word: &[u8],
+    v: &Numbers,
+    m: &mut Recording,
+    o: &mut Outcomes,
     out: &mut Buffer,
     n: usize,
-    words: &[u8],
-    wrong: usize,
-    number: u32,
-    place: usize,
-    mark: u8,
 ) -> usize {
-    let mut m = [3u8; 100001];
-    let mut o = [7u32; 100001];
-    let length = load(words, &mut m);
-    fill_outcomes(&m, length, &mut o, length);
-    outcomes::put_number(&mut o, wrong, number);
-    put_corrected(out, n, &mut m, length, &mut o, length, place, mark)
-}
-
-fn correct(line: &[u8], out: &mut Buffer, n: usize) -> usize {
-    let f = Fields::read(line, b"correct N B T");
-    if f.fits {
-        let words = text::rest(line, f.place_at(2));
-        return put_mended(out, n, words, NOWHERE, 0, f.place_at(0), f.u8_at(1));
+    if check::same(word, b"at") {
+        return put_at(out, n, text::first(m, v[1] as usize), v[2] as usize);
     }
-    n
-}
-
-fn mend(line: &[u8], out: &mut Buffer, n: usize) -> usize {
-    let f = Fields::read(line, b"mend N N N B T");
-    if f.fits {
-        let words = text::rest(line, f.place_at(4));
-        let number = f.u32_at(1);
-        return put_mended(
-            out,
-            n,
-            words,
-            f.place_at(0),
-            number,
-            f.place_at(2),
-            f.u8_at(3),
-        );
+    if check::same(word, b"unfit") {
+        return put_corrected(out, n, v, m, o);
     }
-    n
+    let refusal = fill(v, m, o);
+    if check::same(word, b"fill") {
+        let end = output::put_answer(out, n, refusal, v[2]);
+        return put_sum(out, end, first(o, v[2] as usize));
+    }
+    if check::same(word, b"mend") {
+        put_outcome(o, v[5] as usize, v[6]);
+    }
+    put_corrected(out, n, v, m, o)
 }
 
-fn unfit(line: &[u8], out: &mut Buffer, n: usize) -> usize {
-    let f = Fields::read(line, b"unfit N N B T");
-    if f.fits {
+// Puts the marks of a text or, where it is empty, of the day.
+fn load(text: &[u8], m: &mut Recording) {
+    if text.len() == 0 {
+        day::make(m);
+    } else {
+        text::decode(text, b'0', m);
+    }
+}
+
+fn is_on_recordings(word: &[u8], v: &Numbers) -> bool {
+    is_command(word, b"at", v, b"NN")
+        | is_command(word, b"fill", v, b"NN")
+        | is_command(word, b"correct", v, b"NNNB")
+        | is_command(word, b"mend", v, b"NNNBNN")
+        | is_command(word, b"unfit", v, b"NNNB")
+}
+
+// Puts the answer to a command of this module, and nothing for any other word.
+pub fn answer(word: &[u8], v: &Numbers, text: &[u8], out: &mut Buffer, n: usize) -> usize {
+    if is_on_recordings(word, v) {
         let mut m = [3u8; 100001];
         let mut o = [7u32; 100001];
-        let length = load(text::rest(line, f.place_at(3)), &mut m);
-        let count = f.place_at(0);
-        return put_corrected(
-            out,
-            n,
-            &mut m,
-            length,
-            &mut o,
-            count,
-            f.place_at(1),
-            f.u8_at(2),
-        );
+        load(text, &mut m);
+        return put_lent(word, v, &mut m, &mut o, out, n);
     }
     n
-}
-
-// Puts the answer to a command of this module, and nothing for any other line.
-pub fn answer(line: &[u8], out: &mut Buffer, start: usize) -> usize {
-    let mut n = start;
-    n = at(line, out, n);
-    n = fill(line, out, n);
-    n = correct(line, out, n);
-    n = mend(line, out, n);
-    unfit(line, out, n)
 }

@@ -1,205 +1,160 @@
-// The commands that read a time string, and write what was read back: `standard`, `pzf`, `gps` and `elv` with the
-// string as text; `read` tells the kind first.
-use crate::fields::Fields;
-use crate::flags;
+// The commands on readings, as the C face has them: a kind is its number there, and 4 for a DCF77 minute, whose text has
+// a digit for each mark. `read` reads a text and writes it back, `kind` tells the kind first, `write` writes numbers into a
+// lent buffer, `unix` gives the Unix time of numbers, and `run` the number of a run of marks.
+use crate::numbers;
+use crate::numbers::Numbers;
 use crate::output;
 use crate::output::Buffer;
 use crate::text;
-use clock_time::ClockTime;
-use clock_time::Position;
-use clock_time::WriteAnswer;
-use layout::ReadAnswer;
-use meinberg_gps::GpsAnswer;
-use time_string::Kind;
-use time_string::KindAnswer;
-use time_string::TimeAnswer;
+use radio_clock::instant::radio_clock_unix_time;
+use radio_clock::minutes::radio_clock_read_minute;
+use radio_clock::minutes::radio_clock_write_minute;
+use radio_clock::strings::radio_clock_kind;
+use radio_clock::strings::radio_clock_read;
+use radio_clock::strings::radio_clock_write;
 
-fn put_field(out: &mut Buffer, n: usize, value: u64) -> usize {
-    let m = output::put_number(out, n, value);
-    output::put(out, m, b' ')
+const MINUTE: u8 = 4;
+
+// What the text of a kind shows in place of a zero byte.
+fn base_of(kind: u8) -> u8 {
+    if kind == MINUTE { b'0' } else { 0 }
 }
 
-fn put_signed_field(out: &mut Buffer, n: usize, value: i64) -> usize {
-    let m = output::put_signed(out, n, value);
-    output::put(out, m, b' ')
-}
-
-// The eight numbers and the six flags.
-pub fn put_clock(out: &mut Buffer, at: usize, t: ClockTime) -> usize {
-    let mut n = at;
-    n = put_field(out, n, t.year as u64);
-    n = put_field(out, n, t.month as u64);
-    n = put_field(out, n, t.day as u64);
-    n = put_field(out, n, t.weekday as u64);
-    n = put_field(out, n, t.hour as u64);
-    n = put_field(out, n, t.minute as u64);
-    n = put_field(out, n, t.second as u64);
-    n = put_signed_field(out, n, output::wide(t.utc_offset));
-    flags::put(out, n, t)
-}
-
-fn put_position(out: &mut Buffer, at: usize, p: Position) -> usize {
-    let mut n = output::put(out, at, b' ');
-    n = put_signed_field(out, n, output::wide_i32(p.latitude));
-    n = put_signed_field(out, n, output::wide_i32(p.longitude));
-    output::put_number(out, n, p.height as u64)
-}
-
-// Whether what was written is the string that was read.
-pub fn put_back(out: &mut Buffer, n: usize, s: &[u8], answer: WriteAnswer, back: &[u8]) -> usize {
-    match answer {
-        WriteAnswer::Written(count) => {
-            if (count == s.len()) & check::same(s, back) {
-                return output::put_all(out, n, b" same");
-            }
-            output::put_all(out, n, b" other")
-        }
-        WriteAnswer::Refused(e) => {
-            let m = output::put(out, n, b' ');
-            output::put_error(out, m, e)
-        }
-    }
-}
-
-fn put_standard(out: &mut Buffer, at: usize, s: &[u8]) -> usize {
-    match meinberg_standard::read_standard(s) {
-        ReadAnswer::Read(t) => {
-            let n = put_clock(out, at, t);
-            let mut back = [0u8; 32];
-            let answer = meinberg_standard_writer::write_standard(t, &mut back);
-            put_back(out, n, s, answer, &back)
-        }
-        ReadAnswer::Refused(e) => output::put_error(out, at, e),
-    }
-}
-
-fn put_pzf(out: &mut Buffer, at: usize, s: &[u8]) -> usize {
-    match meinberg_pzf::read_pzf(s) {
-        ReadAnswer::Read(t) => {
-            let n = put_clock(out, at, t);
-            let mut back = [0u8; 32];
-            let answer = meinberg_pzf_writer::write_pzf(t, &mut back);
-            put_back(out, n, s, answer, &back)
-        }
-        ReadAnswer::Refused(e) => output::put_error(out, at, e),
-    }
-}
-
-fn put_gps(out: &mut Buffer, at: usize, s: &[u8]) -> usize {
-    match meinberg_gps::read_gps(s) {
-        GpsAnswer::Read(g) => {
-            let t = g.time;
-            let p = g.position;
-            let mut n = put_clock(out, at, t);
-            n = put_position(out, n, p);
-            let mut back = [0u8; 66];
-            let answer = meinberg_gps_writer::write_gps(g, &mut back);
-            put_back(out, n, s, answer, &back)
-        }
-        GpsAnswer::Refused(e) => output::put_error(out, at, e),
-    }
-}
-
-fn put_elv(out: &mut Buffer, at: usize, s: &[u8]) -> usize {
-    match elv_dcf7000::read_elv(s) {
-        ReadAnswer::Read(t) => {
-            let n = put_clock(out, at, t);
-            let mut back = [0u8; 21];
-            let answer = elv_dcf7000_writer::write_elv(t, &mut back);
-            put_back(out, n, s, answer, &back)
-        }
-        ReadAnswer::Refused(e) => output::put_error(out, at, e),
-    }
-}
-
-fn put_read(out: &mut Buffer, at: usize, answer: TimeAnswer) -> usize {
-    match answer {
-        TimeAnswer::Read(t) => put_clock(out, at, t),
-        TimeAnswer::ReadWithPosition(g) => {
-            let t = g.time;
-            let p = g.position;
-            let n = put_clock(out, at, t);
-            put_position(out, n, p)
-        }
-        TimeAnswer::Refused(e) => output::put_error(out, at, e),
-    }
-}
-
-fn put_kind(out: &mut Buffer, n: usize, kind: Kind) -> usize {
+// How many numbers a reading of this kind has.
+fn count_of(kind: u8) -> usize {
     match kind {
-        Kind::Standard => output::put_all(out, n, b"standard "),
-        Kind::Pzf => output::put_all(out, n, b"pzf "),
-        Kind::Gps => output::put_all(out, n, b"gps "),
-        Kind::Elv => output::put_all(out, n, b"elv "),
+        2 => 17,
+        4 => 16,
+        _ => 14,
     }
 }
 
-fn put_any(out: &mut Buffer, at: usize, s: &[u8]) -> usize {
-    match time_string::kind_of(s) {
-        KindAnswer::Told(kind) => {
-            let n = put_kind(out, at, kind);
-            put_read(out, n, time_string::read(kind, s))
-        }
-        KindAnswer::Refused(e) => output::put_error(out, at, e),
+fn first(fields: &[i32], n: usize) -> &[i32] {
+    if fields.len() < n {
+        return fields;
     }
+    &fields[0..n]
 }
 
-fn standard(line: &[u8], out: &mut Buffer, n: usize) -> usize {
-    let f = Fields::read(line, b"standard T");
-    if f.fits {
-        let t = text::decode(line, f.place_at(0));
-        let bytes = t.bytes;
-        return put_standard(out, n, text::first(&bytes, t.length));
+fn read(kind: u8, s: &[u8], fields: &mut [i32]) -> u8 {
+    if kind == MINUTE {
+        return radio_clock_read_minute(s, fields);
+    }
+    radio_clock_read(kind, s, fields)
+}
+
+fn write(kind: u8, fields: &[i32], space: &mut [u8], count: &mut usize) -> u8 {
+    if kind == MINUTE {
+        return radio_clock_write_minute(fields, space, count);
+    }
+    radio_clock_write(kind, fields, space, count)
+}
+
+// Puts whether the numbers are written as s.
+fn put_back(out: &mut Buffer, n: usize, kind: u8, fields: &[i32], s: &[u8]) -> usize {
+    let mut space = [0u8; 80];
+    let mut count = 0;
+    let refusal = write(kind, fields, &mut space, &mut count);
+    if (refusal == 0) & check::same(text::first(&space, count), s) {
+        return output::put_all(out, n, b"same");
+    }
+    output::put_all(out, n, b"other")
+}
+
+// Puts the numbers that s is read as, and whether they are written back as s.
+fn put_read(out: &mut Buffer, at: usize, kind: u8, s: &[u8]) -> usize {
+    let mut fields = [0i32; 17];
+    let refusal = read(kind, s, &mut fields);
+    if refusal != 0 {
+        return output::put_answer(out, at, refusal, 0);
+    }
+    let n = output::put_fields(out, at, first(&fields, count_of(kind)));
+    put_back(out, n, kind, first(&fields, count_of(kind)), s)
+}
+
+// Puts the kind of s, and what it is read as.
+fn put_kind(out: &mut Buffer, at: usize, s: &[u8]) -> usize {
+    let mut kind = 0;
+    let refusal = radio_clock_kind(s, &mut kind);
+    let n = output::put_answer(out, at, refusal, kind as u64);
+    if refusal != 0 {
+        return n;
+    }
+    let m = output::put(out, n, b' ');
+    put_read(out, m, kind, s)
+}
+
+// Writes into the first `room` bytes of the space, or into all where they are fewer.
+fn write_in(kind: u8, fields: &[i32], space: &mut [u8], room: usize, count: &mut usize) -> u8 {
+    if space.len() < room {
+        return write(kind, fields, space, count);
+    }
+    write(kind, fields, &mut space[0..room], count)
+}
+
+// Puts what a writer answers for all numbers but the kind and the room, and the buffer that it was lent.
+fn put_written(out: &mut Buffer, at: usize, v: &Numbers) -> usize {
+    let kind = numbers::u8_at(v, 1);
+    let mut fields = [0i32; 17];
+    numbers::put_fields(v, 2, &mut fields);
+    if v[0] < 2 {
+        return at;
+    }
+    let room = numbers::at(v, v[0] as usize) as usize;
+    let mut space = [b'.'; 80];
+    let mut count = 0;
+    let refusal = write_in(
+        kind,
+        first(&fields, (v[0] - 2) as usize),
+        &mut space,
+        room,
+        &mut count,
+    );
+    let n = output::put_answer(out, at, refusal, count as u64);
+    output::put_text(out, n, text::first(&space, room), base_of(kind))
+}
+
+fn put_unix_time(out: &mut Buffer, n: usize, v: &Numbers) -> usize {
+    let mut fields = [0i32; 17];
+    numbers::put_fields(v, 1, &mut fields);
+    let mut time = 0;
+    let refusal = radio_clock_unix_time(&fields, &mut time);
+    if refusal != 0 {
+        return output::put_answer(out, n, refusal, 0);
+    }
+    output::put_signed(out, n, time)
+}
+
+// Puts the answers to `read`, `kind` and `run`.
+fn put_text_answer(word: &[u8], v: &Numbers, text: &[u8], out: &mut Buffer, n: usize) -> usize {
+    let mut space = [0u8; 256];
+    if numbers::is_command(word, b"read", v, b"B") {
+        let kind = numbers::u8_at(v, 1);
+        let length = text::decode(text, base_of(kind), &mut space);
+        return put_read(out, n, kind, text::first(&space, length));
+    }
+    if numbers::is_command(word, b"kind", v, b"") {
+        let length = text::decode(text, 0, &mut space);
+        return put_kind(out, n, text::first(&space, length));
+    }
+    if numbers::is_command(word, b"run", v, b"") {
+        let length = text::decode(text, b'0', &mut space);
+        return output::put_number(
+            out,
+            n,
+            dcf77::run_number(text::first(&space, length)) as u64,
+        );
     }
     n
 }
 
-fn pzf(line: &[u8], out: &mut Buffer, n: usize) -> usize {
-    let f = Fields::read(line, b"pzf T");
-    if f.fits {
-        let t = text::decode(line, f.place_at(0));
-        let bytes = t.bytes;
-        return put_pzf(out, n, text::first(&bytes, t.length));
+// Puts the answer to a command of this module, and nothing for any other word.
+pub fn answer(word: &[u8], v: &Numbers, text: &[u8], out: &mut Buffer, n: usize) -> usize {
+    if check::same(word, b"write") {
+        return put_written(out, n, v);
     }
-    n
-}
-
-fn gps(line: &[u8], out: &mut Buffer, n: usize) -> usize {
-    let f = Fields::read(line, b"gps T");
-    if f.fits {
-        let t = text::decode(line, f.place_at(0));
-        let bytes = t.bytes;
-        return put_gps(out, n, text::first(&bytes, t.length));
+    if numbers::is_command(word, b"unix", v, b"WBBBBBBI") {
+        return put_unix_time(out, n, v);
     }
-    n
-}
-
-fn elv(line: &[u8], out: &mut Buffer, n: usize) -> usize {
-    let f = Fields::read(line, b"elv T");
-    if f.fits {
-        let t = text::decode(line, f.place_at(0));
-        let bytes = t.bytes;
-        return put_elv(out, n, text::first(&bytes, t.length));
-    }
-    n
-}
-
-fn read(line: &[u8], out: &mut Buffer, n: usize) -> usize {
-    let f = Fields::read(line, b"read T");
-    if f.fits {
-        let t = text::decode(line, f.place_at(0));
-        let bytes = t.bytes;
-        return put_any(out, n, text::first(&bytes, t.length));
-    }
-    n
-}
-
-// Puts the answer to a command of this module, and nothing for any other line.
-pub fn answer(line: &[u8], out: &mut Buffer, at: usize) -> usize {
-    let mut n = at;
-    n = standard(line, out, n);
-    n = pzf(line, out, n);
-    n = gps(line, out, n);
-    n = elv(line, out, n);
-    read(line, out, n)
+    put_text_answer(word, v, text, out, n)
 }

@@ -1,12 +1,28 @@
-// Bytes as text: `%hh`, with two hexadecimal digits, stands for a byte that can not be shown.
-use crate::output;
-use crate::output::Buffer;
-ghost use Prim.Native.Nat.{_≤_};
+// Parts of a line, and the bytes that a text stands for: `%hh`, with two hexadecimal digits, is a byte that can not be
+// shown.
+ghost use Prim.Native.Nat.{_≤_, max};
+ghost use lib.ListN.{length};
 
-// The first `length` bytes are the text; no text here is longer than 256 bytes.
-pub struct Text {
-    pub bytes: [u8; 256],
-    pub length: usize,
+// The place of the first such byte from `at` on, or the end; `at` itself where that is past the end.
+pub fn place_of(s: &[u8], at: usize, byte: u8) -> usize
+    ensures { λ r. ⌜ (at ≤ r) × (r ≤ max at (length (now (s .entry)))) ⌝ }
+{
+    let mut i = at;
+    while i < s.len() {
+        if s[i] == byte {
+            return i;
+        }
+        i += 1;
+    }
+    i
+}
+
+// True for an empty line and for one that starts with `#`.
+pub fn is_heading(line: &[u8]) -> bool {
+    if 0 < line.len() {
+        return line[0] == b'#';
+    }
+    true
 }
 
 // The first n bytes of s, or all where they are fewer.
@@ -17,93 +33,64 @@ pub fn first(s: &[u8], n: usize) -> &[u8] {
     &s[0..n]
 }
 
-// The bytes of s from `at` on, or all where they are fewer.
-pub fn rest(s: &[u8], at: usize) -> &[u8] {
-    if s.len() < at {
-        return s;
+// The bytes of s from two after `at` on, or none where they are fewer.
+pub fn after(s: &[u8], at: usize) -> &[u8] {
+    if at < s.len() {
+        if 2 <= s.len() - at {
+            return &s[at + 2..];
+        }
     }
-    &s[at..]
+    &s[0..0]
 }
 
-fn nibble(b: u8) -> u8 {
-    if b < b'0' {
-        return 0;
-    }
-    if b <= b'9' {
-        return b - b'0';
-    }
-    if b < b'a' {
-        return 0;
-    }
-    (b - 87) % 16
-}
-
-fn byte_at(line: &[u8], i: usize) -> u8 {
-    if i < line.len() {
-        return line[i];
+fn byte_at(s: &[u8], i: usize) -> u8 {
+    if i < s.len() {
+        return s[i];
     }
     0
 }
 
-// How many bytes of the line stand for one: 3 at a per cent sign.
+// What a hexadecimal digit stands for: its low four bits, and 9 more for a letter.
+fn nibble(b: u8) -> u8
+    ensures { λ r. ⌜ r ≤ 15 ⌝ }
+{
+    if b < b'a' {
+        return b % 16;
+    }
+    (b % 16 + 9) % 16
+}
+
+// How many bytes of a text stand for one: 3 at a per cent sign.
 fn width(b: u8) -> usize
     ensures { λ r. ⌜ (1 ≤ r) × (r ≤ 3) ⌝ }
 {
     if b == b'%' { 3 } else { 1 }
 }
 
-fn decode_one(line: &[u8], i: usize) -> u8 {
-    let b = byte_at(line, i);
+fn decode_one(s: &[u8], i: usize) -> u8 {
+    let b = byte_at(s, i);
     if b == b'%' {
-        if i < line.len() {
-            let high = nibble(byte_at(line, i + 1)) % 16;
-            if i + 1 < line.len() {
-                return 16 * high + nibble(byte_at(line, i + 2)) % 16;
+        if i < s.len() {
+            let high = nibble(byte_at(s, i + 1));
+            if i + 1 < s.len() {
+                return 16 * high + nibble(byte_at(s, i + 2));
             }
         }
     }
     b
 }
 
-// The bytes that the line stands for from `start` on.
-pub fn decode(line: &[u8], start: usize) -> Text {
-    let mut bytes = [0u8; 256];
+// Puts the bytes that a text stands for, each less `base`, as far as there is space, and returns how many they are.
+pub fn decode(s: &[u8], base: u8, space: &mut [u8]) -> usize {
     let mut n: usize = 0;
-    let mut i = start;
-    while i < line.len() {
-        if n < 256 {
-            bytes[n] = decode_one(line, i);
-            n += 1;
-        }
-        i += width(line[i]);
-    }
-    Text { bytes, length: n }
-}
-
-fn hexadecimal(n: u8) -> u8 {
-    let k = n % 16;
-    if k < 10 {
-        return b'0' + k;
-    }
-    b'a' + (k - 10)
-}
-
-fn put_one(out: &mut Buffer, at: usize, b: u8) -> usize {
-    if (b < 32) | (126 < b) | (b == b'%') {
-        let n = output::put(out, at, b'%');
-        let m = output::put(out, n, hexadecimal(b / 16));
-        return output::put(out, m, hexadecimal(b));
-    }
-    output::put(out, at, b)
-}
-
-// Puts bytes as text.
-pub fn put(out: &mut Buffer, at: usize, s: &[u8]) -> usize {
-    let mut n = at;
     let mut i = 0;
     while i < s.len() {
-        n = put_one(out, n, s[i]);
-        i += 1;
+        if space.len() <= n {
+            return n;
+        }
+        space[n] = std::num::wrapping_sub_u8(decode_one(s, i), base);
+        n += 1;
+        i += width(s[i]);
     }
     n
 }

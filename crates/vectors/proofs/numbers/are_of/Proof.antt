@@ -1,0 +1,29 @@
+-- `vectors::numbers::are_of` is safe and ends: each turn passes a letter. Assumes nothing.
+use Prim.Native.Nat.{_-_}
+use borrow.Author.Needs.{needs}
+use lib.ListN.{length}
+use Rattle.vectors.proofs.numbers.are_of.Statement.{statement}
+use Rattle.vectors.proofs.numbers.are_of.Tie as tie
+
+abbrev Inv-loop : tie.InvT-loop
+Inv-loop v kinds all₀ i₀ all i = Unit {0}
+
+abbrev μ-loop : tie.MeasureT-loop
+μ-loop v kinds all₀ i₀ all i = length kinds - i
+
+pub are-of-spec : {M : Type 1} → statement M
+are-of-spec =
+    tie.close
+    (tie.spec
+    Inv-loop
+    μ-loop
+    (λ c. search needs)
+    (λ c. search needs)
+    (λ c. search needs)
+    (λ c. search needs)
+    (λ c κs. search needs)
+    (λ c κs. search needs)
+    (λ c. search needs)
+    (λ c. search needs)
+    (λ c. search needs)
+    (λ c. search needs))

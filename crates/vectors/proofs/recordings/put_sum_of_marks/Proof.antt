@@ -1,0 +1,28 @@
+-- `vectors::recordings::put_sum_of_marks` is safe and ends: each turn passes a mark. Assumes nothing.
+use Prim.Native.Nat.{_-_}
+use borrow.Author.Needs.{needs}
+use lib.ListN.{length}
+use Rattle.vectors.proofs.recordings.put_sum_of_marks.Statement.{statement}
+use Rattle.vectors.proofs.recordings.put_sum_of_marks.Tie as tie
+
+abbrev Inv-loop : tie.InvT-loop
+Inv-loop out at m sum₀ i₀ sum i = Unit {0}
+
+abbrev μ-loop : tie.MeasureT-loop
+μ-loop out at m sum₀ i₀ sum i = length m - i
+
+pub put-sum-of-marks-spec : {M : Type 1} → statement M
+put-sum-of-marks-spec =
+    tie.close
+    (tie.spec
+    Inv-loop
+    μ-loop
+    (λ c. search needs)
+    (λ c. search needs)
+    (λ c κs. search needs)
+    (λ c. search needs)
+    (λ c. search needs)
+    (λ c. search needs)
+    (λ c κs. search needs)
+    (λ c κs. search needs)
+    (λ c. search needs))

@@ -2,17 +2,16 @@
 use Prim.Native.Nat.{ℕ, _≤_}
 use native.Mathlib.Omega.{arith}
 use mathlib.Core.Path.{_≡_, refl, sym, _∙_}
-use mathlib.Core.Bool.{true, _&&_}
+use mathlib.Core.Bool.{true}
 use mathlib.Core.List.{List, [], _++_, append-nil}
 use lib.Dec.{lit≤}
 use lib.ListN.{length, take, drop, replicate}
 use lib.IntN.{ℤ}
 use lib.Seq.{length-take-le}
-use borrow.Author.Tests.{le-ltb, not-false}
+use borrow.Author.Tests.{le-ltb}
 use Rattle.clock_time.specs.Errors.{Answer, accepted, refused}
 use Rattle.clock_time.specs.Writing.{Outcome}
 use Rattle.clock_time.specs.declared.ClockTime.{ClockTime}
-use Rattle.clock_time.proofs.Tests.{both}
 use Rattle.calendar.specs.UnixTime.{isValid, instantOf, unixTime}
 use Rattle.layout.specs.Layout.{run}
 use Rattle.meinberg_standard.specs.Standard.{writeStandard}
@@ -22,13 +21,12 @@ use Rattle.meinberg_standard.proofs.Theorems as standard-string
 use Rattle.meinberg_pzf.proofs.Theorems as pzf-string
 use Rattle.elv_dcf7000.proofs.Theorems as elv-string
 use Rattle.meinberg_gps.proofs.Theorems as gps-string
-use Rattle.meinberg_gps.specs.Gps.{gps, gpsFields, readGps}
-use Rattle.gps_position.specs.Position.{Angle, latitude, longitude, hemisphere, angleSize, angleOf, inRange}
-use Rattle.gps_position.specs.Position.{positionDigits, positionFault, positionOf}
+use Rattle.meinberg_gps.specs.Gps.{gpsFields, readGps}
+use Rattle.gps_position.specs.Position.{Angle, latitude, longitude, angleSize, angleOf, positionOf}
 use Rattle.meinberg_gps.specs.declared.GpsTime.{GpsTime}
-use Rattle.gps_position.proofs.AlignedLaws.{value-small}
-use Rattle.gps_position.proofs.PositionLaws.{position-digits}
-use Rattle.signed.proofs.SignedLaws.{sign-limit, signed-size}
+use Rattle.gps_position.proofs.AlignedLaws.{aligned-plain, value-small}
+use Rattle.gps_position.proofs.AcceptLaws.{whole-exactly}
+use Rattle.signed.proofs.SignedLaws.{signed-size}
 use Rattle.dcf77.specs.Minute.{minuteFields, readMinute}
 use Rattle.dcf77.specs.declared.MinuteTime.{MinuteTime}
 use Rattle.dcf77.proofs.MarkLaws.{small-sure, binary-below}
@@ -84,24 +82,22 @@ module _ (t : ClockTime) (h : isValid t ≡ true) where
   unfolding unixTimeOf unixTime
   instant-on z = rw (first-back t (valid-holds t h) z) (simp h)
 
-angle-within : (a : Angle) (s : List ℕ) → a .limit ≤ 2147483647 → inRange a s ≡ true
+angle-within : (a : Angle) (s : List ℕ) → a .limit ≤ 2147483647 → angleSize a s ≤ a .limit
     → within i32Range (angleOf a s) ≡ true
-unfolding inRange angleOf
-angle-within a s small h =
-    let size = sign-limit _ _ (a .limit) (hemisphere a s) (angleSize a s) h in
-    size-within 2147483647 (angleOf a s) (rw signed-size (omega arith))
+unfolding angleOf
+angle-within a s small most = size-within 2147483647 (angleOf a s) (rw signed-size (omega arith))
 
 position-holds : (s : List ℕ) (g : GpsTime) → readGps s ≡ accepted g → HoldsPosition (g .position)
-unfolding gps gpsFields positionOf positionFault
+unfolding gpsFields positionOf
 position-holds s g h =
     let r = gps-string.faithful .accepted-exactly s g .0 h in
-    let w = both (positionDigits s && inRange latitude s) (inRange longitude s) (not-false _ (r .0 .position)) in
-    let v = both (positionDigits s) (inRange latitude s) (w .0) in
-    let small = value-small (run 60 4 s) (position-digits s (v .0) .height-plain) in
+    let p = r .0 .position in
+    let plain-height = aligned-plain (run 60 4 s) (whole-exactly (run 60 4 s) .1 (p .height)) in
+    let small = value-small (run 60 4 s) plain-height in
     rw (r .1)
     (record {
-      latitude = angle-within latitude s (lit≤ tt) (v .1);
-      longitude = angle-within longitude s (lit≤ tt) (w .1);
+      latitude = angle-within latitude s (lit≤ tt) (p .north .most);
+      longitude = angle-within longitude s (lit≤ tt) (p .east .most);
       height = omega arith;
     })
 

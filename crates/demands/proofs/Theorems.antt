@@ -10,7 +10,7 @@ use mathlib.Core.List.{List, [], _∷_, _++_}
 use lib.Dec.{leb, ltb}
 use lib.ListN.{length, getD, set, drop}
 use lib.IntN.{ℤ}
-use Rattle.clock_time.specs.Errors.{accepted, given, checked}
+use Rattle.clock_time.specs.Errors.{accepted, refused, given, checked}
 use Rattle.clock_time.specs.Exit.{exit}
 use Rattle.clock_time.specs.Faithful.{Faithful}
 use Rattle.clock_time.specs.Writing.{writing, writeBack}
@@ -53,7 +53,7 @@ use Rattle.clock_numbers.specs.Called.{answered, left, counted}
 use Rattle.clock_numbers.specs.Numbers.{minuteNumbers}
 use Rattle.clock_fields.specs.Ranges.{timeRanges, gpsRanges, minuteRanges, fits, fitsAll, timeFrom, gpsFrom, minuteFrom}
 use Rattle.clock_fields.specs.Ranges.{numbered, firstTimeOf, timeOf, gpsOf, minuteOf}
-use Rattle.radio_clock.specs.Strings.{kindNumberOf, readingNumbers, readNumbered, readInto, writeFrom, unixTimeOf}
+use Rattle.radio_clock.specs.Strings.{kindNamed, kindNumberOf, readingNumbers, readNumbered, readInto, writeFrom, unixTimeOf}
 use Rattle.radio_clock.specs.Minutes.{readMinuteInto, writeMinuteFrom}
 use Rattle.radio_clock.specs.Feed.{FeedMemory, feedInto}
 use Rattle.radio_clock.proofs.Theorems as face
@@ -303,6 +303,17 @@ pub c-minute-written-back : (m : List ℕ) (a : MinuteTime) → readMinute m ≡
     → (d : List ℕ) → length m ≤ length d
     → writeMinuteFrom (minuteNumbers a) d ≡ exit (accepted (length m)) (m ++ drop (length m) d)
 c-minute-written-back = face.write-read-minute
+
+-- "Given room enough, a writer refuses a reading exactly when nothing acceptable in that format reads as it.": from C,
+-- numbers are refused with 23, whatever the room, exactly if nothing of that kind is read as them
+pub c-refused-23 : (n : ℕ) (kind : Kind) → kindNamed n ≡ accepted kind → (z : List ℤ) (d : List ℕ)
+    → (writeFrom n z d .answer ≡ refused 23)
+    ↔ ((s : List ℕ) (r : Reading) → readNumbered n s ≡ accepted r → readingNumbers r ≡ z → ⊥)
+c-refused-23 = face.write-23
+
+pub c-minute-refused-23 : (z : List ℤ) (d : List ℕ) → (writeMinuteFrom z d .answer ≡ refused 23)
+    ↔ ((m : List ℕ) (a : MinuteTime) → readMinute m ≡ accepted a → minuteNumbers a ≡ z → ⊥)
+c-minute-refused-23 = face.write-minute-23
 
 -- ======== Demand 3
 -- "Whatever tape and sheet are lent, and whichever place and new mark are named, this holds after a correction that

@@ -5,4 +5,5 @@ pub mod FeedLaws
 pub mod StateLaws
 pub mod ValidLaws
 pub mod RoundLaws
+pub mod RefusedLaws
 pub mod Theorems

@@ -50,15 +50,15 @@ use Rattle.radio_clock.proofs.StateLaws.{state-back}
 use Rattle.radio_clock.proofs.FeedLaws.{feed-whole}
 
 -- ---- what was accepted
-refused-accepted : {A B : Type 0} {a : A} {k : ℕ} → refused k ≡ accepted a → B
+pub refused-accepted : {A B : Type 0} {a : A} {k : ℕ} → refused k ≡ accepted a → B
 refused-accepted e = let z : _≡_ {A = ℕ} 0 1 = cc in absurd (omega arith)
 
-plain-time : (a : Answer ClockTime) (r : Reading) → plain a ≡ accepted r
+pub plain-time : (a : Answer ClockTime) (r : Reading) → plain a ≡ accepted r
     → (t : ClockTime) × (a ≡ accepted t) × (r ≡ time t)
 plain-time (accepted t) r h = (t, refl, cc)
 plain-time (refused k) r h = refused-accepted h
 
-located-time : (a : Answer GpsTime) (r : Reading) → located a ≡ accepted r
+pub located-time : (a : Answer GpsTime) (r : Reading) → located a ≡ accepted r
     → (g : GpsTime) × (a ≡ accepted g) × (r ≡ timeAndPosition g)
 located-time (accepted g) r h = (g, refl, cc)
 located-time (refused k) r h = refused-accepted h
@@ -87,7 +87,7 @@ angle-within : (a : Angle) (s : List ℕ) → a .limit ≤ 2147483647 → angleS
 unfolding angleOf
 angle-within a s small most = size-within 2147483647 (angleOf a s) (rw signed-size (omega arith))
 
-position-holds : (s : List ℕ) (g : GpsTime) → readGps s ≡ accepted g → HoldsPosition (g .position)
+pub position-holds : (s : List ℕ) (g : GpsTime) → readGps s ≡ accepted g → HoldsPosition (g .position)
 unfolding gpsFields positionOf
 position-holds s g h =
     let r = gps-string.faithful .accepted-exactly s g .0 h in
@@ -101,7 +101,7 @@ position-holds s g h =
       height = omega arith;
     })
 
-marks-small : (m : List ℕ) (a : MinuteTime) → readMinute m ≡ accepted a → a .detail .marks ≤ 65535
+pub marks-small : (m : List ℕ) (a : MinuteTime) → readMinute m ≡ accepted a → a .detail .marks ≤ 65535
 unfolding minuteFields
 marks-small m a h =
     let r = minute.faithful .accepted-exactly m a .0 h in

@@ -56,9 +56,9 @@ pub fn run_number(m: &[u8]) -> u32
     ensures { λ r. ⌜ r ≡ runNumber (now (m .entry)) ⌝ }
 {
     match read_minute(m) {
-        MinuteAnswer::Read(a) => {
-            let t = a.time;
-            let d = a.detail;
+        MinuteAnswer::Read(minute) => {
+            let t = minute.time;
+            let d = minute.detail;
             let flags = numbering::flags_number(
                 d.sixty,
                 t.summer_time,

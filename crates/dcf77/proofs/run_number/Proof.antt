@@ -11,14 +11,14 @@ use Rattle.dcf77.proofs.run_number.Tie as tie
 minute-number-requires : tie.Need-minute-number-requires
 minute-number-requires c κs =
     let t = c .before .before .before .before in
-    let read = sym (t .before .before .read-minute .ensures) ∙ ap minuteAnswer (t .a .given .1) in
+    let read = sym (t .before .before .read-minute .ensures) ∙ ap minuteAnswer (t .minute .given .1) in
     (accepted-known _ _ read, c .flags-number .ensures .0)
 
 returns : tie.Need-returns
 unfolding runNumber
 returns c =
     let t = c .before .before .before .before .before in
-    let read = sym (t .before .before .read-minute .ensures) ∙ ap minuteAnswer (t .a .given .1) in
+    let read = sym (t .before .before .read-minute .ensures) ∙ ap minuteAnswer (t .minute .given .1) in
     rw read
     (simp (c .minute-number .ensures, c .before .flags-number .ensures .1, accepted-summer _ _ read) (omega arith))
 

@@ -10,7 +10,7 @@ use mir.Val.{toZ, ofZ, hbits}
 use mir.Facts.{toZ-ofZ}
 use borrow.Author.Needs.{sfits-of}
 use borrow.Author.Tests.{lt-ltb, le-ltb}
-use Rattle.clock_numbers.specs.Called.{called, left}
+use Rattle.clock_time.specs.Called.{called, left}
 use Rattle.clock_numbers.specs.Numbers.{putNumbers}
 
 -- ---- what the machine holds for a number that fits

@@ -9,7 +9,7 @@ use Rattle.clock_time.specs.Exit.{Exit, leaves}
 use Rattle.clock_time.specs.declared.ClockTime.{ClockTime}
 use Rattle.meinberg_gps.specs.declared.GpsTime.{GpsTime}
 use Rattle.dcf77.specs.declared.MinuteTime.{MinuteTime}
-use Rattle.clock_numbers.specs.Called.{leaving}
+use Rattle.clock_time.specs.Called.{leaving}
 
 -- a flag as a number: 1 where it is set, else 0
 abbrev pub flag : Bool → ℤ

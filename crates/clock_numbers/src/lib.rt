@@ -13,7 +13,7 @@ ghost use lib.ListN.{length, take, drop};
 ghost use Rattle.layout.specs.Text.{readAnswer};
 ghost use Rattle.meinberg_gps.specs.Gps.{gpsAnswer};
 ghost use Rattle.dcf77.specs.Minute.{minuteAnswer};
-ghost use Rattle.clock_numbers.specs.Called.{called, left};
+ghost use Rattle.clock_time.specs.Called.{called, left};
 ghost use Rattle.clock_numbers.specs.Numbers.{flag, timeNumbers, gpsNumbers, minuteNumbers, putNumbers};
 ghost use Rattle.clock_numbers.specs.Numbers.{putAnswer};
 

@@ -29,7 +29,7 @@ use Rattle.dcf77.specs.declared.MinuteTime.{MinuteTime}
 use Rattle.recording.specs.Gaps.{isGap, gapBefore}
 use Rattle.recording.specs.Rule.{runBetween, gapNumber, ruleBy}
 use Rattle.recording.specs.Recording.{rule}
-use Rattle.clock_numbers.specs.Called.{leaving}
+use Rattle.clock_time.specs.Called.{leaving}
 use Rattle.clock_numbers.specs.Numbers.{timeNumbers, gpsNumbers, minuteNumbers, putNumbers, putAnswer}
 use Rattle.clock_fields.specs.Ranges.{timeRanges, gpsRanges, minuteRanges, fits, fitsAll, timeFrom, gpsFrom}
 use Rattle.clock_fields.specs.Ranges.{minuteFrom, numbered}

@@ -10,7 +10,7 @@ use borrow.Author.Tests.{eqb-false, not-true}
 use Rattle.clock_time.specs.Errors.{Answer, accepted, refused, Check, checked}
 use Rattle.clock_time.specs.Exit.{Exit, leaves}
 use Rattle.clock_time.proofs.Tests.{both}
-use Rattle.clock_numbers.specs.Called.{Called, statusOf, answered, left, counted, andThen, leaving}
+use Rattle.clock_time.specs.Called.{Called, statusOf, answered, left, counted, andThen, leaving}
 use Rattle.demands.specs.Ordered.{numbersOf, FirstHolds, NoneHolds, Ordered, Kept, Lent, FromC}
 
 -- no answer is accepted and refused

@@ -49,13 +49,13 @@ use Rattle.recording.proofs.Theorems as recordings
 use Rattle.listing_lines.specs.Line.{lineOf, writeLine}
 use Rattle.listing_lines.specs.Totals.{totalsLine, writeTotals}
 use Rattle.listing_lines.specs.declared.Totals.{Totals}
-use Rattle.clock_numbers.specs.Called.{answered, left, counted}
+use Rattle.clock_time.specs.Called.{answered, left, counted}
 use Rattle.clock_numbers.specs.Numbers.{minuteNumbers}
 use Rattle.clock_fields.specs.Ranges.{timeRanges, gpsRanges, minuteRanges, fits, fitsAll, timeFrom, gpsFrom, minuteFrom}
 use Rattle.clock_fields.specs.Ranges.{numbered, firstTimeOf, timeOf, gpsOf, minuteOf}
 use Rattle.radio_clock.specs.Strings.{kindNamed, kindNumberOf, readingNumbers, readNumbered, readInto, writeFrom, unixTimeOf}
 use Rattle.radio_clock.specs.Minutes.{readMinuteInto, writeMinuteFrom}
-use Rattle.radio_clock.specs.Feed.{FeedMemory, feedInto}
+use Rattle.feed_state.specs.Feed.{FeedMemory, feedInto}
 use Rattle.radio_clock.proofs.Theorems as face
 use Rattle.demands.specs.Ordered.{Ordered, Lent, FromC}
 use Rattle.demands.specs.Lines.{textOrder, minuteOrder, linesAs, kindLines, writerLines, textLines, minuteLines}

@@ -6,7 +6,7 @@ use mathlib.Core.Bool.{true, false}
 use mathlib.Core.List.{List, [], _∷_}
 use Rattle.clock_time.specs.Errors.{Answer, accepted, refused, Check}
 use Rattle.clock_time.specs.Exit.{Exit}
-use Rattle.clock_numbers.specs.Called.{Called}
+use Rattle.clock_time.specs.Called.{Called}
 
 -- the numbers of lines of the table of refusals, in their order
 abbrev pub numbersOf : List Check → List ℕ

@@ -4,7 +4,7 @@ use mathlib.Core.Path.{_≡_, ap}
 use mathlib.Core.List.{List}
 use Rattle.clock_time.specs.declared.WriteAnswer.{WriteAnswer}
 use Rattle.clock_time.specs.Writing.{Outcome, writeAnswer, outcome}
-use Rattle.clock_numbers.specs.Called.{Called, called, answered, counted}
+use Rattle.clock_time.specs.Called.{Called, called, answered, counted}
 
 -- a writer's answer that was put behind a pointer, with the buffer that the writer left
 pub counted-from : (a : WriteAnswer) (r new old : ℕ) (x : List ℕ) (o : Outcome)

@@ -1,8 +1,6 @@
 -- Laws of the C face, and its main results.
 pub mod CalledLaws
 pub mod StringLaws
-pub mod FeedLaws
-pub mod StateLaws
 pub mod ValidLaws
 pub mod RoundLaws
 pub mod RefusedLaws

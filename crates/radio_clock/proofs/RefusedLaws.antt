@@ -25,7 +25,7 @@ use Rattle.dcf77.proofs.Theorems as minute
 use Rattle.time_string.specs.Kind.{Reading, time, timeAndPosition, plain, readAs}
 use Rattle.time_string.specs.declared.Kind.{Kind}
 use Rattle.time_string.specs.declared.Kind.the-variants.{Standard, Pzf, Gps, Elv}
-use Rattle.clock_numbers.specs.Called.{andThen, leaving}
+use Rattle.clock_time.specs.Called.{andThen, leaving}
 use Rattle.clock_numbers.specs.Numbers.{timeNumbers, gpsNumbers, minuteNumbers}
 use Rattle.clock_fields.specs.Ranges.{numbered, timeOf, gpsOf, minuteOf}
 use Rattle.clock_fields.proofs.BackLaws.{time-back, gps-back, minute-back}
@@ -79,9 +79,10 @@ plain-23 : (read : List ℕ → Answer ClockTime) (write : ClockTime → List �
     ↔ Unread (λ s. plain (read s)) readingNumbers z
 plain-23 read write refused-23 valid z d =
     let w = numbers-23 read write timeOf timeNumbers refused-23 fields.numbers-time
-        (λ s t h. time-back t (valid-holds t (valid s t h))) (λ x k e. numbered-23 _ _ k e) z d in
-    (λ e s r h n. let p = plain-time (read s) r h in w .0 e s (p .0) (p .1) (rw (p .2) at n),
-    λ none. w .1 (λ s t h n. none s (time t) (rw h refl) n))
+    (λ s t h. time-back t (valid-holds t (valid s t h))) (λ x k e. numbered-23 _ _ k e) z d in (
+      λ e s r h n. let p = plain-time (read s) r h in w .0 e s (p .0) (p .1) (rw (p .2) at n),
+      λ none. w .1 (λ s t h n. none s (time t) (rw h refl) n),
+    )
 
 kind-23 : (kind : Kind) (z : List ℤ) (d : List ℕ)
     → (writeAs kind z d .answer ≡ refused 23) ↔ Unread (readAs kind) readingNumbers z
@@ -92,11 +93,12 @@ kind-23 Pzf z d = plain-23 readPzf writePzf (pzf-string.faithful .refused-23) pz
 kind-23 Elv z d = plain-23 readElv writeElv (elv-string.faithful .refused-23) elv-string.valid-read z d
 kind-23 Gps z d =
     let back : (s : List ℕ) (g : GpsTime) → readGps s ≡ accepted g → gpsOf (gpsNumbers g) ≡ accepted g =
-        λ s g h. gps-back g (valid-holds (g .time) (gps-string.valid-read s g h)) (position-holds s g h) in
+    λ s g h. gps-back g (valid-holds (g .time) (gps-string.valid-read s g h)) (position-holds s g h) in
     let w = numbers-23 readGps writeGps gpsOf gpsNumbers (gps-string.faithful .refused-23) fields.numbers-gps back
-        (λ x k e. numbered-23 _ _ k e) z d in
-    (λ e s r h n. let p = located-time (readGps s) r h in w .0 e s (p .0) (p .1) (rw (p .2) at n),
-    λ none. w .1 (λ s g h n. none s (timeAndPosition g) (rw h refl) n))
+    (λ x k e. numbered-23 _ _ k e) z d in (
+      λ e s r h n. let p = located-time (readGps s) r h in w .0 e s (p .0) (p .1) (rw (p .2) at n),
+      λ none. w .1 (λ s g h n. none s (timeAndPosition g) (rw h refl) n),
+    )
 
 -- ---- the results
 pub write-23 : (n : ℕ) (kind : Kind) → kindNamed n ≡ accepted kind → (z : List ℤ) (d : List ℕ)

@@ -5,10 +5,8 @@ use mathlib.Core.Path.{_≡_, refl, sym, _∙_}
 use mathlib.Core.Bool.{true}
 use mathlib.Core.List.{List, [], _++_, append-nil}
 use lib.Dec.{lit≤}
-use lib.ListN.{length, take, drop, replicate}
+use lib.ListN.{length, drop}
 use lib.IntN.{ℤ}
-use lib.Seq.{length-take-le}
-use borrow.Author.Tests.{le-ltb}
 use Rattle.clock_time.specs.Errors.{Answer, accepted, refused}
 use Rattle.clock_time.specs.Writing.{Outcome}
 use Rattle.clock_time.specs.declared.ClockTime.{ClockTime}
@@ -34,20 +32,15 @@ use Rattle.dcf77.proofs.Theorems as minute
 use Rattle.time_string.specs.Kind.{Reading, time, timeAndPosition, readingTime, plain, located, readAs}
 use Rattle.time_string.specs.declared.Kind.{Kind}
 use Rattle.time_string.specs.declared.Kind.the-variants.{Standard, Pzf, Gps, Elv}
-use Rattle.framing.specs.Step.{start}
-use Rattle.framing.specs.Feed.{feedOf}
-use Rattle.clock_numbers.specs.Called.{andThen, leaving}
+use Rattle.clock_time.specs.Called.{andThen, leaving}
 use Rattle.clock_numbers.specs.Numbers.{timeNumbers, gpsNumbers, minuteNumbers}
 use Rattle.clock_fields.specs.Ranges.{i32Range, within, timeOf}
 use Rattle.clock_fields.specs.Held.{HoldsPosition}
 use Rattle.radio_clock.specs.Strings.{kindNamed, readingNumbers, readNumbered, writeAs, writeFrom}
 use Rattle.radio_clock.specs.Strings.{unixTimeOf}
 use Rattle.radio_clock.specs.Minutes.{writeMinuteFrom}
-use Rattle.radio_clock.specs.Feed.{modeOf, framerIn, stateBytes, eventNumber, feedMemory, feedInto}
 use Rattle.radio_clock.proofs.ValidLaws.{valid-holds, minute-valid, size-within}
 use Rattle.clock_fields.proofs.BackLaws.{time-back, first-back, gps-back, minute-back}
-use Rattle.radio_clock.proofs.StateLaws.{state-back}
-use Rattle.radio_clock.proofs.FeedLaws.{feed-whole}
 
 -- ---- what was accepted
 pub refused-accepted : {A B : Type 0} {a : A} {k : ℕ} → refused k ≡ accepted a → B
@@ -163,28 +156,3 @@ unfolding writeMinuteFrom
 write-read-minute m a h d room =
     rw (minute-back a (valid-holds (a .time) (minute-valid m a h)) (marks-small m a h))
     (minute.faithful .written-back m a h d room)
-
--- ---- the feed
-pub zero-state : framerIn (replicate 68 0) ≡ start
-unfolding framerIn modeOf
-zero-state = refl
-
-state-whole : (state : List ℕ) → 68 ≤ length state → length (framerIn state .bytes) ≡ 66
-unfolding framerIn
-state-whole state room = length-take-le 66 state (omega arith)
-
-feed-room : (state : List ℕ) (taken event : ℕ) (s : List ℕ) (limit : ℕ) → 68 ≤ length state
-    → let r = feedOf (framerIn state) (take limit s) in
-    feedInto (feedMemory state taken event) s limit .memory
-    ≡ feedMemory (stateBytes (r .framer) ++ drop 68 state) (r .taken) (eventNumber (r .answer))
-unfolding feedInto
-feed-room state taken event s limit room = simp (le-ltb _ _ room)
-
-pub feed-goes-on : (state : List ℕ) (taken event : ℕ) (s : List ℕ) (limit : ℕ) → 68 ≤ length state
-    → let after = feedInto (feedMemory state taken event) s limit .memory in
-    (framerIn (after .state) ≡ feedOf (framerIn state) (take limit s) .framer)
-    × (after .taken ≡ feedOf (framerIn state) (take limit s) .taken)
-feed-goes-on state taken event s limit room =
-    let r = feedOf (framerIn state) (take limit s) in
-    rw (feed-room state taken event s limit room)
-    (state-back (r .framer) (drop 68 state) (feed-whole (take limit s) (framerIn state) (state-whole state room)), refl)

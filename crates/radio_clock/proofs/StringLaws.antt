@@ -11,7 +11,7 @@ use Rattle.clock_time.specs.Exit.{exit}
 use Rattle.clock_time.specs.declared.ClockTime.{ClockTime}
 use Rattle.meinberg_gps.specs.declared.GpsTime.{GpsTime}
 use Rattle.time_string.specs.Kind.{plain, located}
-use Rattle.clock_numbers.specs.Called.{Called, left}
+use Rattle.clock_time.specs.Called.{Called, left}
 use Rattle.clock_numbers.specs.Numbers.{timeNumbers, gpsNumbers, putAnswer}
 use Rattle.radio_clock.specs.Strings.{kindNamed, readingNumbers, writeAs, writeFrom, writeTime, writePlain}
 

@@ -3,7 +3,7 @@ use Prim.Native.Nat.{ℕ, _≤_}
 use mathlib.Core.Path.{_≡_, refl}
 use mathlib.Core.Logic.{_↔_}
 use mathlib.Core.List.{List, _++_}
-use lib.ListN.{length, take, drop, replicate}
+use lib.ListN.{length, drop}
 use lib.IntN.{ℤ}
 use Rattle.clock_time.specs.Errors.{accepted, refused}
 use Rattle.calendar.specs.UnixTime.{instantOf}
@@ -12,14 +12,9 @@ use Rattle.time_string.specs.declared.Kind.the-variants.{Standard, Pzf, Gps, El
 use Rattle.time_string.specs.Kind.{Reading, readingTime}
 use Rattle.dcf77.specs.Minute.{readMinute}
 use Rattle.dcf77.specs.declared.MinuteTime.{MinuteTime}
-use Rattle.framing.specs.declared.Framer.{Framer}
-use Rattle.framing.specs.Step.{start}
-use Rattle.framing.specs.Feed.{feedOf}
 use Rattle.clock_numbers.specs.Numbers.{minuteNumbers}
 use Rattle.radio_clock.specs.Strings.{kindNumber, kindNamed, readingNumbers, readNumbered, writeFrom, unixTimeOf}
 use Rattle.radio_clock.specs.Minutes.{writeMinuteFrom}
-use Rattle.radio_clock.specs.Feed.{framerIn, stateBytes, feedMemory, feedInto}
-use Rattle.radio_clock.proofs.StateLaws as state
 use Rattle.radio_clock.proofs.RoundLaws as round
 use Rattle.radio_clock.proofs.RefusedLaws as unread
 
@@ -59,19 +54,3 @@ named-kind Elv = refl
 pub unix-time-read : (n : ℕ) (s : List ℕ) (r : Reading) → readNumbered n s ≡ accepted r
     → unixTimeOf (readingNumbers r) ≡ accepted (instantOf (readingTime r))
 unix-time-read = round.unix-time-read
-
--- 68 zero bytes are the state before the first byte
-pub zero-state : framerIn (replicate 68 0) ≡ start
-zero-state = round.zero-state
-
--- the bytes of a state are that state again
-pub state-bytes : (f : Framer) (rest : List ℕ) → length (f .bytes) ≡ 66 → framerIn (stateBytes f ++ rest) ≡ f
-state-bytes = state.state-back
-
--- "The feed's state goes in and is handed back" (01, The serial feed): what a call leaves stands for the state after
--- the bytes taken, which are those of the feed, so that calls in a row are feeds in a row
-pub feed-goes-on : (state : List ℕ) (taken event : ℕ) (s : List ℕ) (limit : ℕ) → 68 ≤ length state
-    → let after = feedInto (feedMemory state taken event) s limit .memory in
-    (framerIn (after .state) ≡ feedOf (framerIn state) (take limit s) .framer)
-    × (after .taken ≡ feedOf (framerIn state) (take limit s) .taken)
-feed-goes-on = round.feed-goes-on

@@ -1,4 +1,3 @@
 -- The definitions that the contracts cite.
 pub mod Strings
 pub mod Minutes
-pub mod Feed

@@ -5,7 +5,7 @@ use lib.IntN.{ℤ}
 use Rattle.clock_time.specs.Exit.{Exit}
 use Rattle.clock_time.specs.Writing.{Outcome}
 use Rattle.dcf77.specs.Minute.{readMinute, writeMinute}
-use Rattle.clock_numbers.specs.Called.{leaving}
+use Rattle.clock_time.specs.Called.{leaving}
 use Rattle.clock_numbers.specs.Numbers.{minuteNumbers, putAnswer}
 use Rattle.clock_fields.specs.Ranges.{minuteOf}
 

@@ -16,7 +16,7 @@ use Rattle.elv_dcf7000.specs.Elv.{writeElv}
 use Rattle.time_string.specs.Kind.{kindOf, Reading, time, timeAndPosition, readAs}
 use Rattle.time_string.specs.declared.Kind.{Kind}
 use Rattle.time_string.specs.declared.Kind.the-variants.{Standard, Pzf, Gps, Elv}
-use Rattle.clock_numbers.specs.Called.{andThen, leaving}
+use Rattle.clock_time.specs.Called.{andThen, leaving}
 use Rattle.clock_numbers.specs.Numbers.{timeNumbers, gpsNumbers, putAnswer}
 use Rattle.clock_fields.specs.Ranges.{timeOf, firstTimeOf, gpsOf}
 

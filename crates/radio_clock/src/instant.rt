@@ -3,7 +3,7 @@ use calendar::unix_time::UnixTime;
 use layout::ReadAnswer;
 ghost use mathlib.Core.Path.{_≡_};
 ghost use Rattle.calendar.specs.UnixTime.{unixTimeAnswer};
-ghost use Rattle.clock_numbers.specs.Called.{called, answered};
+ghost use Rattle.clock_time.specs.Called.{called, answered};
 ghost use Rattle.radio_clock.specs.Strings.{unixTimeOf};
 
 fn put_instant(answer: UnixTime, time: &mut i64) -> u8

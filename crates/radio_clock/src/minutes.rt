@@ -4,7 +4,7 @@ use clock_time::WriteAnswer;
 use dcf77::MinuteAnswer;
 ghost use mathlib.Core.Path.{_≡_};
 ghost use Rattle.clock_time.specs.Writing.{outcome};
-ghost use Rattle.clock_numbers.specs.Called.{called, left, counted};
+ghost use Rattle.clock_time.specs.Called.{called, left, counted};
 ghost use Rattle.radio_clock.specs.Minutes.{readMinuteInto, writeMinuteFrom};
 
 // Reads a run of marks into the first 16 of the numbers lent: as the minute's reader refuses, and 20 where there is no

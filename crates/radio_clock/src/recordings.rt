@@ -4,7 +4,7 @@ use recording::FillAnswer;
 use recording::OutcomeAnswer;
 ghost use mathlib.Core.Path.{_≡_};
 ghost use Rattle.recording.specs.Recording.{outcomeAt, fillOutcomes, recorded, correctMark};
-ghost use Rattle.clock_numbers.specs.Called.{called, answered, left, counted};
+ghost use Rattle.clock_time.specs.Called.{called, answered, left, counted};
 
 // Leaves the number that the rule gives a place behind `number`: 20 for more than 100,000 marks, 21 for no such place.
 #[no_mangle]

@@ -8,7 +8,7 @@ use time_string::Kind;
 use time_string::KindAnswer;
 ghost use mathlib.Core.Path.{_≡_};
 ghost use Rattle.clock_time.specs.Writing.{outcome};
-ghost use Rattle.clock_numbers.specs.Called.{called, answered, left, counted};
+ghost use Rattle.clock_time.specs.Called.{called, answered, left, counted};
 ghost use Rattle.radio_clock.specs.Strings.{kindNumber, kindNumberOf, readInto, writeTime, writePlain, writeAs};
 ghost use Rattle.radio_clock.specs.Strings.{writeFrom};
 

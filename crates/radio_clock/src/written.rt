@@ -2,7 +2,7 @@
 use clock_time::WriteAnswer;
 ghost use mathlib.Core.Path.{_≡_};
 ghost use Rattle.clock_time.specs.Writing.{writeAnswer};
-ghost use Rattle.clock_numbers.specs.Called.{called, answered};
+ghost use Rattle.clock_time.specs.Called.{called, answered};
 
 // Puts the number of places filled behind the pointer.
 pub(crate) fn put_written(answer: WriteAnswer, written: &mut usize) -> u8

@@ -8,7 +8,7 @@ use lib.IntN.{ℤ}
 use lib.ListN.{length, take}
 use lib.Seq.{length-take-le}
 use mir.Facts.{toZ-ofZ}
-use Rattle.clock_numbers.specs.Called.{left}
+use Rattle.clock_time.specs.Called.{left}
 use Rattle.clock_numbers.specs.Numbers.{timeNumbers, putNumbers}
 use Rattle.clock_numbers.proofs.put_with.Statement.{statement}
 use Rattle.clock_numbers.proofs.put_with.Tie as tie

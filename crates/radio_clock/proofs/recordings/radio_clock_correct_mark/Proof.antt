@@ -1,7 +1,7 @@
 -- `radio_clock::recordings::radio_clock_correct_mark` meets its contract. Assumes nothing.
 use borrow.Author.Needs.{needs}
 use mathlib.Core.Path.{ap}
-use Rattle.clock_numbers.specs.Called.{counted}
+use Rattle.clock_time.specs.Called.{counted}
 use Rattle.radio_clock.proofs.recordings.radio_clock_correct_mark.Statement.{statement}
 use Rattle.radio_clock.proofs.recordings.radio_clock_correct_mark.Tie as tie
 

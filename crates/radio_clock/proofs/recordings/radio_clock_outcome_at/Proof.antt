@@ -1,7 +1,7 @@
 -- `radio_clock::recordings::radio_clock_outcome_at` meets its contract. Assumes nothing.
 use borrow.Author.Needs.{needs}
 use mathlib.Core.Path.{ap}
-use Rattle.clock_numbers.specs.Called.{answered}
+use Rattle.clock_time.specs.Called.{answered}
 use Rattle.radio_clock.proofs.recordings.radio_clock_outcome_at.Statement.{statement}
 use Rattle.radio_clock.proofs.recordings.radio_clock_outcome_at.Tie as tie
 

@@ -1,13 +1,13 @@
--- `radio_clock::feed::load` meets its contract. Assumes nothing.
+-- `feed_state::load` meets its contract. Assumes nothing.
 use borrow.Author.Needs.{needs}
 use native.Mathlib.Omega.{arith}
 use mathlib.Core.Path.{sym}
 use denote.Ref.{now}
 use lib.Seq.{length-take-le}
-use Rattle.radio_clock.specs.Feed.{framerIn}
-use Rattle.radio_clock.proofs.FeedLaws.{written-whole}
-use Rattle.radio_clock.proofs.feed.load.Statement.{statement}
-use Rattle.radio_clock.proofs.feed.load.Tie as tie
+use Rattle.feed_state.specs.Feed.{framerIn}
+use Rattle.feed_state.proofs.FeedLaws.{written-whole}
+use Rattle.feed_state.proofs.load.Statement.{statement}
+use Rattle.feed_state.proofs.load.Tie as tie
 
 slice-aggregate-write-bytes : tie.Need-slice-aggregate-write-bytes
 slice-aggregate-write-bytes c =

@@ -8,7 +8,7 @@ use lib.Seq.{take-at, getD-at, append-snoc}
 use Rattle.framing.specs.declared.Mode.{Mode}
 use Rattle.framing.specs.declared.Mode.the-variants.{Outside, Inside, Overlong}
 use Rattle.framing.specs.declared.Framer.{Framer}
-use Rattle.radio_clock.specs.Feed.{modeNumber, modeOf, framerIn, stateBytes}
+use Rattle.feed_state.specs.Feed.{modeNumber, modeOf, framerIn, stateBytes}
 
 mode-back : (m : Mode) → modeOf (modeNumber m) ≡ m
 unfolding modeOf

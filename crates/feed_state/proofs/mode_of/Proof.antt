@@ -1,8 +1,8 @@
--- `radio_clock::feed::mode_of` meets its contract. Assumes nothing.
+-- `feed_state::mode_of` meets its contract. Assumes nothing.
 use borrow.Author.Tests.{eq-eqb, ne-eqb}
-use Rattle.radio_clock.specs.Feed.{modeOf}
-use Rattle.radio_clock.proofs.feed.mode_of.Statement.{statement}
-use Rattle.radio_clock.proofs.feed.mode_of.Tie as tie
+use Rattle.feed_state.specs.Feed.{modeOf}
+use Rattle.feed_state.proofs.mode_of.Statement.{statement}
+use Rattle.feed_state.proofs.mode_of.Tie as tie
 
 returns : tie.Need-returns
 unfolding modeOf

@@ -1,12 +1,12 @@
--- `radio_clock::feed::store` meets its contract. Assumes nothing.
+-- `feed_state::store` meets its contract. Assumes nothing.
 use borrow.Author.Needs.{needs}
 use native.Mathlib.Omega.{arith}
 use mathlib.Core.Path.{_≡_}
 use denote.Ref.{now}
 use lib.ListN.{length}
-use Rattle.radio_clock.proofs.FeedLaws.{written-front, store-after}
-use Rattle.radio_clock.proofs.feed.store.Statement.{statement}
-use Rattle.radio_clock.proofs.feed.store.Tie as tie
+use Rattle.feed_state.proofs.FeedLaws.{written-front, store-after}
+use Rattle.feed_state.proofs.store.Statement.{statement}
+use Rattle.feed_state.proofs.store.Tie as tie
 
 returns : tie.Need-returns
 returns c =

@@ -1,8 +1,8 @@
--- `radio_clock::feed::event_number` meets its contract. Assumes nothing.
+-- `feed_state::event_number` meets its contract. Assumes nothing.
 use borrow.Author.Needs.{needs}
 use native.Mathlib.Omega.{arith}
-use Rattle.radio_clock.proofs.feed.event_number.Statement.{statement}
-use Rattle.radio_clock.proofs.feed.event_number.Tie as tie
+use Rattle.feed_state.proofs.event_number.Statement.{statement}
+use Rattle.feed_state.proofs.event_number.Tie as tie
 
 cast-result : tie.Need-cast-result
 cast-result c =

@@ -1,4 +1,4 @@
--- `radio_clock::feed::radio_clock_feed` meets its contract. Assumes nothing.
+-- `feed_state::feed` meets its contract. Assumes nothing.
 use borrow.Author.Needs.{needs}
 use native.Mathlib.Omega.{arith}
 use Prim.Native.Nat.{_≤_}
@@ -6,10 +6,10 @@ use denote.Ref.{now}
 use lib.ListN.{length}
 use borrow.Author.Tests.{lt-ltb}
 use Rattle.framing.specs.Step.{answerOf}
-use Rattle.radio_clock.specs.Feed.{eventNumber, feedInto}
-use Rattle.radio_clock.proofs.FeedLaws.{fed-small, state-small, feed-done}
-use Rattle.radio_clock.proofs.feed.radio_clock_feed.Statement.{statement}
-use Rattle.radio_clock.proofs.feed.radio_clock_feed.Tie as tie
+use Rattle.feed_state.specs.Feed.{eventNumber, feedInto}
+use Rattle.feed_state.proofs.FeedLaws.{fed-small, state-small, feed-done}
+use Rattle.feed_state.proofs.feed.Statement.{statement}
+use Rattle.feed_state.proofs.feed.Tie as tie
 
 returns : tie.Need-returns
 unfolding feedInto
@@ -39,8 +39,8 @@ returns-2 c =
     feed-done (now (x .state)) (now (x .taken)) (now (x .event)) (now (x .s)) (x .limit) (f .feed .result) _ _
     (omega arith) (rw (l .load .ensures) at (f .feed .ensures)) (t .store .ensures) (c .event-number .ensures)
 
-pub radio-clock-feed-spec : {M : Type 1} → statement M
-radio-clock-feed-spec =
+pub feed-spec : {M : Type 1} → statement M
+feed-spec =
     tie.close
     (tie.spec
     returns

@@ -18,8 +18,8 @@ use Rattle.framing.specs.declared.Fed.{Fed}
 use Rattle.framing.specs.Step.{FeedAnswer, nothingYet, answerOf, placeOf, etxAt, plainAt, stepOf}
 use Rattle.framing.specs.Feed.{Feeding, feeding, fed, isNothing, later, feedOf}
 use Rattle.framing.proofs.StepLaws.{inside-room, step-cases}
-use Rattle.clock_numbers.specs.Called.{called, left}
-use Rattle.radio_clock.specs.Feed.{modeNumber, framerIn, stateBytes, eventNumber, feedMemory, feedInto}
+use Rattle.clock_time.specs.Called.{called, left}
+use Rattle.feed_state.specs.Feed.{modeNumber, framerIn, stateBytes, eventNumber, feedMemory, feedInto}
 
 -- ---- what every step keeps, a feed keeps
 module _

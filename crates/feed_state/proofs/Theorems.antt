@@ -1,0 +1,28 @@
+-- The main results of the feed over a state of bytes: nothing is lost between calls. Assumes nothing.
+use Prim.Native.Nat.{ℕ, _≤_}
+use mathlib.Core.Path.{_≡_}
+use mathlib.Core.List.{List, _++_}
+use lib.ListN.{length, take, replicate}
+use Rattle.framing.specs.declared.Framer.{Framer}
+use Rattle.framing.specs.Step.{start}
+use Rattle.framing.specs.Feed.{feedOf}
+use Rattle.feed_state.specs.Feed.{framerIn, stateBytes, eventNumber, feedMemory, feedInto}
+use Rattle.feed_state.proofs.StateLaws as state
+use Rattle.feed_state.proofs.GoesOnLaws as goes
+
+-- 68 zero bytes are the state before the first byte
+pub zero-state : framerIn (replicate 68 0) ≡ start
+zero-state = goes.zero-state
+
+-- the bytes of a state are that state again
+pub state-bytes : (f : Framer) (rest : List ℕ) → length (f .bytes) ≡ 66 → framerIn (stateBytes f ++ rest) ≡ f
+state-bytes = state.state-back
+
+-- "The feed's state goes in and is handed back" (01, The serial feed): what a call leaves stands for the state after
+-- the bytes taken, which are those of the feed, so that calls in a row are feeds in a row
+pub feed-goes-on : (state : List ℕ) (taken event : ℕ) (s : List ℕ) (limit : ℕ) → 68 ≤ length state
+    → let after = feedInto (feedMemory state taken event) s limit .memory in
+    (framerIn (after .state) ≡ feedOf (framerIn state) (take limit s) .framer)
+    × (after .taken ≡ feedOf (framerIn state) (take limit s) .taken)
+    × (after .event ≡ eventNumber (feedOf (framerIn state) (take limit s) .answer))
+feed-goes-on = goes.feed-goes-on

@@ -33,9 +33,12 @@ use Rattle.clock_time.specs.Called.{leaving}
 use Rattle.clock_numbers.specs.Numbers.{timeNumbers, gpsNumbers, minuteNumbers, putNumbers, putAnswer}
 use Rattle.clock_fields.specs.Ranges.{timeRanges, gpsRanges, minuteRanges, fits, fitsAll, timeFrom, gpsFrom}
 use Rattle.clock_fields.specs.Ranges.{minuteFrom, numbered}
-use Rattle.radio_clock.specs.Strings.{kindNumber, kindNumberOf, kindNamed, readingNumbers, readNumbered, readInto}
-use Rattle.radio_clock.specs.Strings.{writeAs, writeFrom, unixTimeOf}
-use Rattle.radio_clock.specs.Minutes.{readMinuteInto, writeMinuteFrom}
+use Rattle.fields_writer.specs.Writers.{kindNamed}
+use Rattle.radio_clock.specs.Strings.{kindNumber, kindNumberOf, readingNumbers, readNumbered, readInto}
+use Rattle.fields_writer.specs.Writers.{writeAs, writeFrom}
+use Rattle.radio_clock.specs.Strings.{unixTimeOf}
+use Rattle.fields_writer.specs.Writers.{writeMinuteFrom}
+use Rattle.radio_clock.specs.Minutes.{readMinuteInto}
 use Rattle.demands.specs.Ordered.{numbersOf, Ordered}
 use Rattle.demands.specs.Lines.{textOrder, minuteOrder, linesAs, kindLines, writerLines, textLines, gapLines}
 use Rattle.demands.specs.Lines.{unknownKind, namedKind, places, roomFor, readLines, writeLinesAs, writeLines}

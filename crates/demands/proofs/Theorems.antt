@@ -53,8 +53,10 @@ use Rattle.clock_time.specs.Called.{answered, left, counted}
 use Rattle.clock_numbers.specs.Numbers.{minuteNumbers}
 use Rattle.clock_fields.specs.Ranges.{timeRanges, gpsRanges, minuteRanges, fits, fitsAll, timeFrom, gpsFrom, minuteFrom}
 use Rattle.clock_fields.specs.Ranges.{numbered, firstTimeOf, timeOf, gpsOf, minuteOf}
-use Rattle.radio_clock.specs.Strings.{kindNamed, kindNumberOf, readingNumbers, readNumbered, readInto, writeFrom, unixTimeOf}
-use Rattle.radio_clock.specs.Minutes.{readMinuteInto, writeMinuteFrom}
+use Rattle.fields_writer.specs.Writers.{kindNamed, writeFrom}
+use Rattle.radio_clock.specs.Strings.{kindNumberOf, readingNumbers, readNumbered, readInto, unixTimeOf}
+use Rattle.fields_writer.specs.Writers.{writeMinuteFrom}
+use Rattle.radio_clock.specs.Minutes.{readMinuteInto}
 use Rattle.feed_state.specs.Feed.{FeedMemory, feedInto}
 use Rattle.radio_clock.proofs.Theorems as face
 use Rattle.demands.specs.Ordered.{Ordered, Lent, FromC}

@@ -25,13 +25,14 @@ use Rattle.dcf77.proofs.Theorems as minute
 use Rattle.time_string.specs.Kind.{Reading, time, timeAndPosition, plain, readAs}
 use Rattle.time_string.specs.declared.Kind.{Kind}
 use Rattle.time_string.specs.declared.Kind.the-variants.{Standard, Pzf, Gps, Elv}
-use Rattle.clock_time.specs.Called.{andThen, leaving}
+use Rattle.clock_time.specs.Called.{leaving}
 use Rattle.clock_numbers.specs.Numbers.{timeNumbers, gpsNumbers, minuteNumbers}
 use Rattle.clock_fields.specs.Ranges.{numbered, timeOf, gpsOf, minuteOf}
 use Rattle.clock_fields.proofs.BackLaws.{time-back, gps-back, minute-back}
 use Rattle.clock_fields.proofs.Theorems as fields
-use Rattle.radio_clock.specs.Strings.{kindNamed, readingNumbers, readNumbered, writeAs, writeFrom}
-use Rattle.radio_clock.specs.Minutes.{writeMinuteFrom}
+use Rattle.fields_writer.specs.Writers.{kindNamed, writeAs, writeFrom}
+use Rattle.radio_clock.specs.Strings.{readingNumbers, readNumbered}
+use Rattle.fields_writer.specs.Writers.{writeMinuteFrom}
 use Rattle.radio_clock.proofs.RoundLaws.{refused-accepted, plain-time, located-time, position-holds, marks-small}
 use Rattle.radio_clock.proofs.ValidLaws.{valid-holds, minute-valid}
 

@@ -36,9 +36,10 @@ use Rattle.clock_time.specs.Called.{andThen, leaving}
 use Rattle.clock_numbers.specs.Numbers.{timeNumbers, gpsNumbers, minuteNumbers}
 use Rattle.clock_fields.specs.Ranges.{i32Range, within, timeOf}
 use Rattle.clock_fields.specs.Held.{HoldsPosition}
-use Rattle.radio_clock.specs.Strings.{kindNamed, readingNumbers, readNumbered, writeAs, writeFrom}
+use Rattle.fields_writer.specs.Writers.{kindNamed, writeAs, writeFrom}
+use Rattle.radio_clock.specs.Strings.{readingNumbers, readNumbered}
 use Rattle.radio_clock.specs.Strings.{unixTimeOf}
-use Rattle.radio_clock.specs.Minutes.{writeMinuteFrom}
+use Rattle.fields_writer.specs.Writers.{writeMinuteFrom}
 use Rattle.radio_clock.proofs.ValidLaws.{valid-holds, minute-valid, size-within}
 use Rattle.clock_fields.proofs.BackLaws.{time-back, first-back, gps-back, minute-back}
 

@@ -1,19 +1,14 @@
 -- Laws of strings by kind numbers. Assumes nothing.
-use Prim.Native.Nat.{ℕ, _≤_, _<_}
-use native.Mathlib.Decide.{ℕ-discrete}
-use native.Mathlib.Omega.{arith}
 use mathlib.Core.Path.{_≡_, refl}
 use mathlib.Core.List.{List}
 use lib.IntN.{ℤ}
-use borrow.Author.Tests.{ne-eqb}
 use Rattle.clock_time.specs.Errors.{Answer, accepted, refused}
-use Rattle.clock_time.specs.Exit.{exit}
 use Rattle.clock_time.specs.declared.ClockTime.{ClockTime}
 use Rattle.meinberg_gps.specs.declared.GpsTime.{GpsTime}
 use Rattle.time_string.specs.Kind.{plain, located}
 use Rattle.clock_time.specs.Called.{Called, left}
 use Rattle.clock_numbers.specs.Numbers.{timeNumbers, gpsNumbers, putAnswer}
-use Rattle.radio_clock.specs.Strings.{kindNamed, readingNumbers, writeAs, writeFrom, writeTime, writePlain}
+use Rattle.radio_clock.specs.Strings.{readingNumbers}
 
 -- ---- reading
 -- what is put of a clock time, or of one with a position, is what is put of the reading
@@ -36,25 +31,3 @@ module _ (lent : List ℤ) (k : Called (List ℤ)) where
   pub put-located : (a b : Answer GpsTime) → k ≡ left (putAnswer gpsNumbers a lent) → a ≡ b
       → k ≡ left (putAnswer readingNumbers (located b) lent)
   put-located a b e h = rw (← h, ← (located-put lent a)) e
-
--- ---- writing
-module _ (n : ℕ) (z : List ℤ) (d : List ℕ) where
-  pub write-unknown : 3 < n → writeFrom n z d ≡ exit (refused 1) d
-  unfolding writeFrom kindNamed
-  write-unknown h =
-      simp (
-        ne-eqb n 0 (λ e. omega (arith, e)),
-        ne-eqb n 1 (λ e. omega (arith, e)),
-        ne-eqb n 2 (λ e. omega (arith, e)),
-        ne-eqb n 3 (λ e. omega (arith, e)),
-      )
-
-  pub write-plain : n ≤ 3 → (n ≡ 2 → ⊥) → writePlain n z d ≡ writeFrom n z d
-  unfolding writePlain writeTime writeFrom kindNamed writeAs
-  write-plain h other = elim (ℕ-discrete n 0) [
-    | yes zero ↦ rw zero
-    | no above ↦ elim (ℕ-discrete n 1) [
-      | yes one ↦ rw one
-      | no two ↦ let three : n ≡ 3 = omega arith in rw three
-    ]
-  ]

@@ -13,8 +13,9 @@ use Rattle.time_string.specs.Kind.{Reading, readingTime}
 use Rattle.dcf77.specs.Minute.{readMinute}
 use Rattle.dcf77.specs.declared.MinuteTime.{MinuteTime}
 use Rattle.clock_numbers.specs.Numbers.{minuteNumbers}
-use Rattle.radio_clock.specs.Strings.{kindNumber, kindNamed, readingNumbers, readNumbered, writeFrom, unixTimeOf}
-use Rattle.radio_clock.specs.Minutes.{writeMinuteFrom}
+use Rattle.fields_writer.specs.Writers.{kindNamed, writeFrom}
+use Rattle.radio_clock.specs.Strings.{kindNumber, readingNumbers, readNumbered, unixTimeOf}
+use Rattle.fields_writer.specs.Writers.{writeMinuteFrom}
 use Rattle.radio_clock.proofs.RoundLaws as round
 use Rattle.radio_clock.proofs.RefusedLaws as unread
 

@@ -5,7 +5,8 @@ use dcf77::MinuteAnswer;
 ghost use mathlib.Core.Path.{_≡_};
 ghost use Rattle.clock_time.specs.Writing.{outcome};
 ghost use Rattle.clock_time.specs.Called.{called, left, counted};
-ghost use Rattle.radio_clock.specs.Minutes.{readMinuteInto, writeMinuteFrom};
+ghost use Rattle.fields_writer.specs.Writers.{writeMinuteFrom};
+ghost use Rattle.radio_clock.specs.Minutes.{readMinuteInto};
 
 // Reads a run of marks into the first 16 of the numbers lent: as the minute's reader refuses, and 20 where there is no
 // room.
@@ -16,15 +17,6 @@ pub extern "C" fn radio_clock_read_minute(marks: &[u8], fields: &mut [i32]) -> u
         ⌝ }
 {
     clock_numbers::put_minute(dcf77::read_minute(marks), fields)
-}
-
-fn write_numbers(fields: &[i32], out: &mut [u8]) -> WriteAnswer
-    ensures { λ r. ⌜ outcome r (now (out .exit)) ≡ writeMinuteFrom (now (fields .entry)) (now (out .entry)) ⌝ }
-{
-    match clock_fields::minute_of(fields) {
-        MinuteAnswer::Read(a) => dcf77_writer::write_minute(a, out),
-        MinuteAnswer::Refused(e) => WriteAnswer::Refused(e),
-    }
 }
 
 // Writes numbers as a run of marks to the front of `out`, with their count behind `written`: 23 where no run is read as
@@ -40,5 +32,5 @@ pub extern "C" fn radio_clock_write_minute(
         ≡ counted (now (written .entry)) (writeMinuteFrom (now (fields .entry)) (now (out .entry)))
         ⌝ }
 {
-    written::put_written(write_numbers(fields, out), written)
+    written::put_written(fields_writer::write_marks(fields, out), written)
 }

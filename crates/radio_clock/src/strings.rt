@@ -9,8 +9,9 @@ use time_string::KindAnswer;
 ghost use mathlib.Core.Path.{_≡_};
 ghost use Rattle.clock_time.specs.Writing.{outcome};
 ghost use Rattle.clock_time.specs.Called.{called, answered, left, counted};
-ghost use Rattle.radio_clock.specs.Strings.{kindNumber, kindNumberOf, readInto, writeTime, writePlain, writeAs};
-ghost use Rattle.radio_clock.specs.Strings.{writeFrom};
+ghost use Rattle.fields_writer.specs.Writers.{writeTime, writePlain, writeAs};
+ghost use Rattle.radio_clock.specs.Strings.{kindNumber, kindNumberOf, readInto};
+ghost use Rattle.fields_writer.specs.Writers.{writeFrom};
 
 fn kind_number(k: Kind) -> u8
     ensures { λ r. ⌜ r ≡ kindNumber k ⌝ }
@@ -58,37 +59,6 @@ pub extern "C" fn radio_clock_read(kind: u8, s: &[u8], fields: &mut [i32]) -> u8
     1
 }
 
-// Writes a clock time as a string of kind 0 or 1, or of kind 3 for any other number.
-fn write_time(kind: u8, t: ClockTime, out: &mut [u8]) -> WriteAnswer
-    ensures { λ r. ⌜ outcome r (now (out .exit)) ≡ writeTime kind t (now (out .entry)) ⌝ }
-{
-    if kind == 0 {
-        return meinberg_standard_writer::write_standard(t, out);
-    }
-    if kind == 1 {
-        return meinberg_pzf_writer::write_pzf(t, out);
-    }
-    elv_dcf7000_writer::write_elv(t, out)
-}
-
-fn write_plain(kind: u8, fields: &[i32], out: &mut [u8]) -> WriteAnswer
-    ensures { λ r. ⌜ outcome r (now (out .exit)) ≡ writePlain kind (now (fields .entry)) (now (out .entry)) ⌝ }
-{
-    match clock_fields::time_of(fields) {
-        ReadAnswer::Read(t) => write_time(kind, t, out),
-        ReadAnswer::Refused(e) => WriteAnswer::Refused(e),
-    }
-}
-
-fn write_gps(fields: &[i32], out: &mut [u8]) -> WriteAnswer
-    ensures { λ r. ⌜ outcome r (now (out .exit)) ≡ writeAs Kind.Gps (now (fields .entry)) (now (out .entry)) ⌝ }
-{
-    match clock_fields::gps_of(fields) {
-        GpsAnswer::Read(g) => meinberg_gps_writer::write_gps(g, out),
-        GpsAnswer::Refused(e) => WriteAnswer::Refused(e),
-    }
-}
-
 // Writes numbers as a string of the kind that a number names to the front of `out`, with its length behind `written`: 1
 // for no such kind, 23 where no such string is read as the numbers, 20 where there is no room.
 #[no_mangle]
@@ -103,11 +73,5 @@ pub extern "C" fn radio_clock_write(
         ≡ counted (now (written .entry)) (writeFrom kind (now (fields .entry)) (now (out .entry)))
         ⌝ }
 {
-    if 3 < kind {
-        return 1;
-    }
-    if kind == 2 {
-        return written::put_written(write_gps(fields, out), written);
-    }
-    written::put_written(write_plain(kind, fields, out), written)
+    written::put_written(fields_writer::write_string(kind, fields, out), written)
 }

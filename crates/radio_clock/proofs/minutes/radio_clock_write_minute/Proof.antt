@@ -7,7 +7,7 @@ use Rattle.radio_clock.proofs.minutes.radio_clock_write_minute.Tie as t
 returns : tie.Need-returns
 returns c =
     let w = c .before .before .before .before in
-    counted-from (w .write-numbers .result) _ _ _ _ _ (c .put-written .ensures) (w .write-numbers .ensures)
+    counted-from (w .write-marks .result) _ _ _ _ _ (c .put-written .ensures) (w .write-marks .ensures)
 
 pub radio-clock-write-minute-spec : {M : Type 1} → statement M
 radio-clock-write-minute-spec =

@@ -3,7 +3,8 @@ use borrow.Author.Needs.{needs}
 use borrow.Author.Tests.{ne-eqb}
 use Rattle.time_string.specs.Kind.{readAs}
 use Rattle.clock_numbers.specs.Numbers.{putAnswer}
-use Rattle.radio_clock.specs.Strings.{kindNamed, readInto, readNumbered}
+use Rattle.fields_writer.specs.Writers.{kindNamed}
+use Rattle.radio_clock.specs.Strings.{readInto, readNumbered}
 use Rattle.radio_clock.proofs.StringLaws.{put-plain, put-located}
 use Rattle.radio_clock.proofs.strings.radio_clock_read.Statement.{statement}
 use Rattle.radio_clock.proofs.strings.radio_clock_read.Tie as tie

@@ -1,8 +1,8 @@
--- `radio_clock::minutes::write_numbers` meets its contract. Assumes nothing.
+-- `fields_writer::write_marks` meets its contract. Assumes nothing.
 use borrow.Author.Needs.{needs}
-use Rattle.radio_clock.specs.Minutes.{writeMinuteFrom}
-use Rattle.radio_clock.proofs.minutes.write_numbers.Statement.{statement}
-use Rattle.radio_clock.proofs.minutes.write_numbers.Tie as tie
+use Rattle.fields_writer.specs.Writers.{writeMinuteFrom}
+use Rattle.fields_writer.proofs.write_marks.Statement.{statement}
+use Rattle.fields_writer.proofs.write_marks.Tie as tie
 
 returns : tie.Need-returns
 unfolding writeMinuteFrom
@@ -17,8 +17,8 @@ returns-2 c =
     let t = c .before in
     rw (← (t .before .before .minute-of .ensures), t .e .given .1)
 
-pub write-numbers-spec : {M : Type 1} → statement M
-write-numbers-spec =
+pub write-marks-spec : {M : Type 1} → statement M
+write-marks-spec =
     tie.close
     (tie.spec
     (λ c κs. search needs)

@@ -1,8 +1,8 @@
--- `radio_clock::strings::write_gps` meets its contract. Assumes nothing.
+-- `fields_writer::write_gps` meets its contract. Assumes nothing.
 use borrow.Author.Needs.{needs}
-use Rattle.radio_clock.specs.Strings.{writeAs}
-use Rattle.radio_clock.proofs.strings.write_gps.Statement.{statement}
-use Rattle.radio_clock.proofs.strings.write_gps.Tie as tie
+use Rattle.fields_writer.specs.Writers.{writeAs}
+use Rattle.fields_writer.proofs.write_gps.Statement.{statement}
+use Rattle.fields_writer.proofs.write_gps.Tie as tie
 
 returns : tie.Need-returns
 unfolding writeAs

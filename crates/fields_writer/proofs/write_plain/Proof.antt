@@ -1,8 +1,8 @@
--- `radio_clock::strings::write_plain` meets its contract. Assumes nothing.
+-- `fields_writer::write_plain` meets its contract. Assumes nothing.
 use borrow.Author.Needs.{needs}
-use Rattle.radio_clock.specs.Strings.{writePlain}
-use Rattle.radio_clock.proofs.strings.write_plain.Statement.{statement}
-use Rattle.radio_clock.proofs.strings.write_plain.Tie as tie
+use Rattle.fields_writer.specs.Writers.{writePlain}
+use Rattle.fields_writer.proofs.write_plain.Statement.{statement}
+use Rattle.fields_writer.proofs.write_plain.Tie as tie
 
 returns : tie.Need-returns
 unfolding writePlain

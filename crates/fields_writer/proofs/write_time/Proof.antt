@@ -1,9 +1,9 @@
--- `radio_clock::strings::write_time` meets its contract. Assumes nothing.
+-- `fields_writer::write_time` meets its contract. Assumes nothing.
 use borrow.Author.Needs.{needs}
 use borrow.Author.Tests.{ne-eqb}
-use Rattle.radio_clock.specs.Strings.{writeTime}
-use Rattle.radio_clock.proofs.strings.write_time.Statement.{statement}
-use Rattle.radio_clock.proofs.strings.write_time.Tie as tie
+use Rattle.fields_writer.specs.Writers.{writeTime}
+use Rattle.fields_writer.proofs.write_time.Statement.{statement}
+use Rattle.fields_writer.proofs.write_time.Tie as tie
 
 returns : tie.Need-returns
 unfolding writeTime

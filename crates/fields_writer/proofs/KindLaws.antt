@@ -1,0 +1,32 @@
+-- Laws of writing by kind numbers. Assumes nothing.
+use Prim.Native.Nat.{ℕ, _≤_, _<_}
+use native.Mathlib.Decide.{ℕ-discrete}
+use native.Mathlib.Omega.{arith}
+use mathlib.Core.Path.{_≡_}
+use mathlib.Core.List.{List}
+use lib.IntN.{ℤ}
+use borrow.Author.Tests.{ne-eqb}
+use Rattle.clock_time.specs.Errors.{refused}
+use Rattle.clock_time.specs.Exit.{exit}
+use Rattle.fields_writer.specs.Writers.{kindNamed, writeAs, writeFrom, writeTime, writePlain}
+
+module _ (n : ℕ) (z : List ℤ) (d : List ℕ) where
+  pub write-unknown : 3 < n → writeFrom n z d ≡ exit (refused 1) d
+  unfolding writeFrom kindNamed
+  write-unknown h =
+      simp (
+        ne-eqb n 0 (λ e. omega (arith, e)),
+        ne-eqb n 1 (λ e. omega (arith, e)),
+        ne-eqb n 2 (λ e. omega (arith, e)),
+        ne-eqb n 3 (λ e. omega (arith, e)),
+      )
+
+  pub write-plain : n ≤ 3 → (n ≡ 2 → ⊥) → writePlain n z d ≡ writeFrom n z d
+  unfolding writePlain writeTime writeFrom kindNamed writeAs
+  write-plain h other = elim (ℕ-discrete n 0) [
+    | yes zero ↦ rw zero
+    | no above ↦ elim (ℕ-discrete n 1) [
+      | yes one ↦ rw one
+      | no two ↦ let three : n ≡ 3 = omega arith in rw three
+    ]
+  ]

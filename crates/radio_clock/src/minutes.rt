@@ -1,9 +1,6 @@
 // A DCF77 minute: reading and writing a run of marks.
 use crate::written;
-use clock_time::WriteAnswer;
-use dcf77::MinuteAnswer;
 ghost use mathlib.Core.Path.{_≡_};
-ghost use Rattle.clock_time.specs.Writing.{outcome};
 ghost use Rattle.clock_time.specs.Called.{called, left, counted};
 ghost use Rattle.fields_writer.specs.Writers.{writeMinuteFrom};
 ghost use Rattle.radio_clock.specs.Minutes.{readMinuteInto};

@@ -1,15 +1,9 @@
 // Time strings: the kind of a string, reading and writing by kind number.
 use crate::written;
-use clock_time::ClockTime;
-use clock_time::WriteAnswer;
-use layout::ReadAnswer;
-use meinberg_gps::GpsAnswer;
 use time_string::Kind;
 use time_string::KindAnswer;
 ghost use mathlib.Core.Path.{_≡_};
-ghost use Rattle.clock_time.specs.Writing.{outcome};
 ghost use Rattle.clock_time.specs.Called.{called, answered, left, counted};
-ghost use Rattle.fields_writer.specs.Writers.{writeTime, writePlain, writeAs};
 ghost use Rattle.radio_clock.specs.Strings.{kindNumber, kindNumberOf, readInto};
 ghost use Rattle.fields_writer.specs.Writers.{writeFrom};
 

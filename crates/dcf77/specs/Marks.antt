@@ -23,11 +23,11 @@ unfoldable pub binary : ℕ → ℕ → List ℕ → ℕ
 binary zero at m = 0
 binary (suc k) at m = getD m at 0 + 2 * binary k (suc at) m
 
--- a digit of four marks, and after it the tens
+-- "minute 21..24 and tens 25..27" (01, DCF77 marks), and so of the other fields: a digit of four marks, then the tens
 unfoldable pub twoDigits : ℕ → ℕ → List ℕ → ℕ
 twoDigits at tens m = binary 4 at m + 10 * binary tens (4 + at) m
 
--- how many of the k marks from a place on are long
+-- the sum of k marks from a place on: how many are long, where all are short or long
 unfoldable pub longs : ℕ → ℕ → List ℕ → ℕ
 longs zero at m = 0
 longs (suc k) at m = getD m at 0 + longs k (suc at) m
@@ -36,7 +36,7 @@ longs (suc k) at m = getD m at 0 + longs k (suc at) m
 unfoldable pub isOdd : ℕ → ℕ → List ℕ → Bool
 isOdd k at m = not (eqb (longs k at m % 2) 0)
 
--- the last k bits of n, lowest first
+-- "Lowest bit first" (01, DCF77 marks): the marks that stand for the last k bits of n
 unfoldable pub bits : ℕ → ℕ → List ℕ
 bits zero n = []
 bits (suc k) n = n % 2 ∷ bits k (n / 2)

@@ -41,7 +41,8 @@ announced m =
       «alternate_antenna» = long 15 m;
     }
 
--- "1..14 kept as sent" (01, DCF77 marks); "a minute adds its marks 1..14 and whether it had 60 marks" (01, The reading)
+-- "1..14 kept as sent" (01, DCF77 marks); "a minute adds its marks 1..14 and whether it had 60 marks" (01, The
+-- reading); mark 1 is the lowest bit of `marks`
 unfoldable pub minuteFields : List ℕ → MinuteTime
 minuteFields m =
     record {
@@ -81,14 +82,16 @@ minuteAnswer (Read t) = accepted t
 minuteAnswer (Refused e) = refused (errorNumber e)
 
 -- ---- written back
+-- a long mark for what holds, a short one for what does not
 abbrev pub mark : Bool → ℕ
 mark on = cond on 1 0
 
--- marks, and after them the one that makes their parity even
+-- "Parity is even over 21..28, 29..35 and 36..58." (01, DCF77 marks): marks, and the one that makes their sum even
 abbrev pub withParity : List ℕ → List ℕ
 withParity m = m ++ (sum m % 2 ∷ [])
 
--- the only 59 marks that could announce a minute's time
+-- the only 59 marks that could announce a minute's time, at the places that `announced` quotes; "20 start" (01, DCF77
+-- marks)
 unfoldable pub firstMarks : MinuteTime → List ℕ
 firstMarks a =
     let t = a .time in

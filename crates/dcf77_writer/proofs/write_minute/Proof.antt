@@ -1,11 +1,9 @@
 -- `dcf77_writer::write_minute` meets its contract. Assumes nothing.
 use borrow.Author.Needs.{needs}
-use Prim.Native.Nat.{_+_, _≤_}
 use native.Mathlib.Omega.{arith}
 use mathlib.Core.Path.{sym, ap, _∙_}
 use lib.ListN.{length}
 use lib.Seq.{length-take-le}
-use mir.Val.{boolByte}
 use Rattle.calendar.proofs.DateLaws.{byte-small}
 use Rattle.dcf77.proofs.LineLaws.{length-line, take-line}
 use Rattle.dcf77_writer.proofs.write_minute.Statement.{statement}
@@ -24,9 +22,7 @@ slice-aggregate-write-run : tie.Need-slice-aggregate-write-run
 slice-aggregate-write-run c =
     let l = c .before .before .before in
     let long = ap length (l .line-of .ensures) ∙ length-line _ in
-    let sixty = l .before .before .args .a .detail .sixty in
-    let h : 59 + boolByte sixty ≤ length (l .line-of .result) = omega (arith, byte-small sixty, long) in
-    sym (length-take-le _ _ h)
+    sym (length-take-le _ _ (omega (arith, byte-small (l .before .before .args .a .detail .sixty), long)))
 
 write-run-requires : tie.Need-write-run-requires
 write-run-requires c κs = rw (c .before .before .before .before .line-of .ensures) (take-line _)

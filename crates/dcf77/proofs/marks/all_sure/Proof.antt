@@ -1,6 +1,5 @@
 -- `dcf77::marks::all_sure` meets its contract. Assumes nothing.
 use borrow.Author.Needs.{needs}
-use native.Mathlib.Omega.{arith}
 use Rattle.dcf77.proofs.MarkLaws.{words-sure}
 use Rattle.dcf77.proofs.marks.all_sure.Statement.{statement}
 use Rattle.dcf77.proofs.marks.all_sure.Tie as tie

@@ -26,7 +26,7 @@ unfolding eqℤ
 zone-summer true = refl
 zone-summer false = refl
 
-pub fields-summer : (m : List ℕ) (a : MinuteTime) → a ≡ minuteFields m
+pub accepted-summer : (m : List ℕ) (a : MinuteTime) → readMinute m ≡ accepted a
     → eqℤ (a .time .«utc_offset») (pos 120) ≡ a .time .«summer_time»
 unfolding minuteFields announced
-fields-summer m a h = rw h (zone-summer (long 17 m))
+accepted-summer m a h = rw (read-accepts m a h .1) (zone-summer (long 17 m))

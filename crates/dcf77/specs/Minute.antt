@@ -41,8 +41,8 @@ announced m =
       «alternate_antenna» = long 15 m;
     }
 
--- "1..14 kept as sent" (01, DCF77 marks); "a minute adds its marks 1..14 and whether it had 60 marks" (01, The reading);
--- mark 1 is the lowest bit of `marks`
+-- "1..14 kept as sent" (01, DCF77 marks); "a minute adds its marks 1..14 and whether it had 60 marks" (01, The
+-- reading); mark 1 is the lowest bit of `marks`
 unfoldable pub minuteFields : List ℕ → MinuteTime
 minuteFields m =
     record {

@@ -1,5 +1,5 @@
--- What the writer goes by: which minutes have a run that is read as them, and marks as a number. No main result cites it.
--- Assumes nothing.
+-- What the writer goes by: which minutes have a run that is read as them, and marks as a number. No main result cites
+-- it. Assumes nothing.
 use Prim.Native.Nat.{ℕ, _<_, _^_}
 use mathlib.Core.Path.{_≡_}
 use mathlib.Core.Bool.{Bool, cond, not, _&&_}

@@ -1,5 +1,5 @@
--- `dcf77::run_number` meets its contract: a minute that was read has a known date, and the offset 120 in summer. Assumes
--- nothing.
+-- `dcf77::run_number` meets its contract: a minute that was read has a known date, and the offset 120 in summer.
+-- Assumes nothing.
 use borrow.Author.Needs.{needs}
 use native.Mathlib.Omega.{arith}
 use mathlib.Core.Path.{sym, ap, _∙_}

@@ -115,7 +115,7 @@ unfoldable pub minuteFrom : List ℤ → MinuteTime
 minuteFrom z =
     record { time = timeFrom z; detail = record { marks = natAbs (at 14 z); sixty = isSet (at 15 z) } }
 
--- "23 reading that no accepted string or minute of this format gives" (01, Refusal numbers), here because the numbers
+-- 23: "reading that no accepted string or minute of this format gives" (01, Refusal numbers), here because the numbers
 -- are not those of any reading
 unfoldable pub numbered : {A : Type 0} → Bool → A → Answer A
 numbered fit a = checked (given 23 (not fit) ∷ []) a

@@ -45,7 +45,7 @@ gpsNumbers g =
 unfoldable pub minuteNumbers : MinuteTime → List ℤ
 minuteNumbers a = timeNumbers (a .time) ++ (pos (a .detail .marks) ∷ flag (a .detail .sixty) ∷ [])
 
--- "20 lent memory: [..] a buffer too short to write to" (01, Refusal numbers): numbers are put in front, and "nothing
+-- 20: "lent memory: [..] a buffer too short to write to" (01, Refusal numbers): numbers are put in front, and "nothing
 -- after them" changes
 unfoldable pub putNumbers : List ℤ → List ℤ → Exit (Unit {0}) (List ℤ)
 putNumbers numbers lent =

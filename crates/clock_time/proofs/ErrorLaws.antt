@@ -6,7 +6,7 @@ use mathlib.Core.Bool.{Bool, true, false, cond}
 use mathlib.Core.List.{List, [], _∷_}
 use lib.Dec.{eqb}
 use lib.ListN.{getD}
-use Rattle.clock_time.specs.Errors.{errorNumber, Answer, accepted, refused, Check, checked}
+use Rattle.clock_time.specs.Errors.{errorNumber, accepted, refused, Check, checked}
 use Rattle.clock_time.specs.declared.Error.{Error}
 use Rattle.clock_time.specs.declared.Error.the-variants.{Length, FixedByte, NotDigit, FlagLetter, NoSuchDate}
 use Rattle.clock_time.specs.declared.Error.the-variants.{NoSuchTime, Weekday, UtcOffset, Position, NoEarlierGap}

@@ -3,7 +3,7 @@ use Prim.Native.Nat.{ℕ}
 use native.Mathlib.Omega.{arith}
 use mathlib.Core.Path.{_≡_, sym, ap}
 use Rattle.clock_time.specs.Errors.{Answer, accepted, refused}
-use Rattle.clock_time.specs.Exit.{Exit, exit, leaves}
+use Rattle.clock_time.specs.Exit.{Exit, leaves}
 
 module _ {A M : Type 0} (old new x : M) where
   pub leaves-accepted : (n : A) (a : Answer A) → record { answer = accepted n; memory = x } ≡ leaves old new a

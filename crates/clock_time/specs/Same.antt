@@ -1,6 +1,5 @@
 -- Two values are the same, as a test. Assumes nothing.
-use Prim.Native.Nat.{ℕ}
-use mathlib.Core.Bool.{Bool, true, false, _&&_, Bool·beq}
+use mathlib.Core.Bool.{Bool, false, _&&_, Bool·beq}
 use lib.Dec.{eqb}
 use lib.IntN.{ℤ, pos, negsuc}
 use Rattle.clock_time.specs.declared.ClockTime.{ClockTime}

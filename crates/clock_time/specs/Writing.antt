@@ -1,6 +1,6 @@
 -- What a writer does to the buffer lent to it. Assumes nothing.
 use Prim.Native.Nat.{ℕ}
-use mathlib.Core.Bool.{Bool, false, cond, not}
+use mathlib.Core.Bool.{Bool, false, not}
 use mathlib.Core.List.{List, [], _∷_, _++_}
 use lib.Dec.{ltb}
 use lib.ListN.{length, drop}
@@ -34,7 +34,7 @@ abbrev pub isAccepted : {A : Type 0} → (A → A → Bool) → Answer A → A �
 isAccepted same (accepted b) a = same b a
 isAccepted same (refused k) a = false
 
--- "23 reading that no accepted string or minute of this format gives" (01, Refusal numbers): `text` makes the only
+-- 23: "reading that no accepted string or minute of this format gives" (01, Refusal numbers): `text` makes the only
 -- candidate, and it is not read as this value
 unfoldable pub readsBack : {A : Type 0} → (List ℕ → Answer A) → (A → List ℕ) → (A → A → Bool) → A → Bool
 readsBack read text same a = isAccepted same (read (text a)) a

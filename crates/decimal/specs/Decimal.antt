@@ -37,8 +37,8 @@ pub record Placed : Type 0 where
   pub answer : Answer ℕ
   pub place : ℕ
 
--- "3 no digit in a digit place" (01, Refusal numbers), with the first such place; more than 19 digits may not fit 64
--- bits, and that is "1 string length wrong for its kind" (01, Refusal numbers)
+-- 3: "no digit in a digit place" (01, Refusal numbers), with the first such place; more than 19 digits may not fit 64
+-- bits, and that is 1: "string length wrong for its kind" (01, Refusal numbers)
 unfoldable pub readDigits : List ℕ → Placed
 readDigits s =
     cond (ltb 19 (length s)) (record { answer = refused 1; place = 0 })

@@ -1,7 +1,8 @@
 -- The three demands. Each sentence stands above the theorems that are it, for every entry that a user of the library
--- or of C calls. A function's contract in src/ equates its answer and the memory lent to it, at exit, with a definition;
--- the theorems are about these definitions. `Ordered`, `Lent` and `FromC` say what an order of refusals is, `Lines` has
--- the lines of each entry, `Faithful` and `Corrected` have demands 2 and 3 sentence by sentence. Assumes nothing.
+-- or of C calls. A function's contract in src/ equates its answer and the memory lent to it, at exit, with a
+-- definition; the theorems are about these definitions. `Ordered`, `Lent` and `FromC` say what an order of refusals is,
+-- `Lines` has the lines of each entry, `Faithful` and `Corrected` have demands 2 and 3 sentence by sentence. Assumes
+-- nothing.
 use Prim.Native.Nat.{ℕ, _≤_, _<_, _^_}
 use mathlib.Core.Path.{_≡_, refl}
 use mathlib.Core.Logic.{_↔_}

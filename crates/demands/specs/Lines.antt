@@ -78,7 +78,7 @@ places Pzf = 14
 places Gps = 17
 places Elv = 14
 
--- "20 lent memory: [..] a buffer too short to write to" (01, Refusal numbers): so many numbers are to be put
+-- 20: "lent memory: [..] a buffer too short to write to" (01, Refusal numbers): so many numbers are to be put
 abbrev pub roomFor : ℕ → List ℤ → Check
 roomFor count fields = given 20 (ltb (length fields) count)
 

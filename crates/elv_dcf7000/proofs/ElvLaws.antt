@@ -1,16 +1,16 @@
 -- Laws of the ELV string: its weekday, its flags, its reading once it fits its layout, its text, and that the writer
 -- may decide from the clock time. Assumes nothing.
-use Prim.Native.Nat.{ℕ, _+_, _*_, _%_, _^_, _≤_, _<_}
+use Prim.Native.Nat.{ℕ, _+_, _*_, _%_, _≤_, _<_}
 use native.Mathlib.Omega.{arith}
 use native.Mathlib.Decide.{ℕ-discrete, decLt}
 use mathlib.Core.Path.{_≡_, refl, sym, ap, _∙_}
 use mathlib.Core.Bool.{Bool, true, false, not, cond, _&&_, _||_, Bool·beq}
-use mathlib.Core.List.{List, [], _∷_}
+use mathlib.Core.List.{List}
 use lib.Dec.{eqb, leb, ltb, eqb→eq, lit<, lit≤}
 use lib.ListN.{getD}
 use mir.Val.{boolByte}
 use borrow.Author.Tests.{eq-eqb, ne-eqb, eqb-true, leb-true, le-leb, lt-ltb, le-ltb, ltb-false, not-true}
-use Rattle.clock_time.specs.Errors.{Answer, accepted, refused, given, checked}
+use Rattle.clock_time.specs.Errors.{Answer, accepted, refused, checked}
 use Rattle.clock_time.specs.Same.{eqℤ, sameFields, sameTime}
 use Rattle.clock_time.specs.declared.ClockTime.{ClockTime}
 use Rattle.clock_time.proofs.SameLaws.{eqℤ-refl, eqb-refl, beq-refl, beq-true, sameTime-true}
@@ -28,10 +28,10 @@ use Rattle.layout.specs.Text.{clockChecks}
 use Rattle.layout.proofs.LayoutLaws.{tested-fits, digit-place}
 use Rattle.layout.proofs.TextLaws.{read-fitting}
 use Rattle.layout.proofs.WriteLaws.{restore-fits, digits-number, digits-year}
-use Rattle.layout.proofs.DecideLaws.{digit-fits, Written, written, DecidesClock}
+use Rattle.layout.proofs.DecideLaws.{digit-fits, written, DecidesClock}
 use Rattle.elv_dcf7000.specs.Elv.{elvLayout, elvFlags, elvFlagFault, summerIn, changeIn, unsynchronisedIn}
 use Rattle.elv_dcf7000.specs.Elv.{elvOffset, sentFields, withWeekday, elvFields, flagSum, elvText, elvCarries}
-use Rattle.elv_dcf7000.specs.Elv.{elv, readElv, writeElv}
+use Rattle.elv_dcf7000.specs.Elv.{elv, readElv}
 use Rattle.elv_dcf7000.specs.Accepts.{AcceptsElv}
 
 -- ---- the weekday

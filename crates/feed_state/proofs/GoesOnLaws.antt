@@ -34,5 +34,8 @@ pub feed-goes-on : (state : List ℕ) (taken event : ℕ) (s : List ℕ) (limit 
     × (after .event ≡ eventNumber (feedOf (framerIn state) (take limit s) .answer))
 feed-goes-on state taken event s limit room =
     let r = feedOf (framerIn state) (take limit s) in
-    rw (feed-room state taken event s limit room)
-    (state-back (r .framer) (drop 68 state) (feed-whole (take limit s) (framerIn state) (state-whole state room)), refl, refl)
+    rw (feed-room state taken event s limit room) (
+      state-back (r .framer) (drop 68 state) (feed-whole (take limit s) (framerIn state) (state-whole state room)),
+      refl,
+      refl,
+    )

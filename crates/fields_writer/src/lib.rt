@@ -41,8 +41,8 @@ fn write_gps(fields: &[i32], out: &mut [u8]) -> WriteAnswer
     }
 }
 
-// Writes numbers as a string of the kind that a number names to the front of `out`: 1 for no such kind, 23 where no such
-// string is read as the numbers, 20 where there is no room.
+// Writes numbers as a string of the kind that a number names to the front of `out`: 1 for no such kind, 23 where no
+// such string is read as the numbers, 20 where there is no room.
 pub fn write_string(kind: u8, fields: &[i32], out: &mut [u8]) -> WriteAnswer
     ensures { λ r. ⌜ outcome r (now (out .exit)) ≡ writeFrom kind (now (fields .entry)) (now (out .entry)) ⌝ }
 {

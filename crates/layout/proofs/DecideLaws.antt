@@ -1,14 +1,13 @@
 -- A format's writer may decide from the value: it is written exactly if it is a valid reading that the format carries.
 -- Assumes nothing.
-use Prim.Native.Nat.{ℕ, _+_, _/_, _%_, _≤_, _<_}
+use Prim.Native.Nat.{ℕ, _+_, _/_, _%_, _<_}
 use Prim.Native.Char.{Char, code}
-use native.Mathlib.Nat.{mod-eq-of-lt}
 use native.Mathlib.Omega.{arith}
-use mathlib.Core.Path.{_≡_, refl, sym, _∙_}
+use mathlib.Core.Path.{_≡_, refl, _∙_}
 use mathlib.Core.Bool.{Bool, true, false, _&&_, _||_}
 use mathlib.Core.List.{List}
-use lib.Dec.{eqb, leb}
-use borrow.Author.Tests.{eq-eqb, ne-eqb, le-leb}
+use lib.Dec.{eqb}
+use borrow.Author.Tests.{eq-eqb, le-leb}
 use Rattle.clock_time.specs.Errors.{accepted}
 use Rattle.clock_time.specs.Writing.{writing, writeBack}
 use Rattle.clock_time.specs.declared.ClockTime.{ClockTime}
@@ -17,8 +16,7 @@ use Rattle.clock_time.proofs.SameLaws.{sameTime-refl, sameTime-true}
 use Rattle.clock_time.proofs.Tests.{both}
 use Rattle.calendar.specs.Date.{fullYear}
 use Rattle.calendar.specs.UnixTime.{offsetInRange, isValid}
-use Rattle.calendar.proofs.DateLaws.{known-exists}
-use Rattle.calendar.proofs.ValidLaws.{Valid, valid, checked-valid, year-back}
+use Rattle.calendar.proofs.ValidLaws.{valid, checked-valid, year-back}
 use Rattle.decimal.specs.Decimal.{isDigit, digits, value}
 use Rattle.decimal.proofs.DecimalLaws.{value-digits}
 use Rattle.layout.specs.Layout.{FitsLayout}

@@ -14,6 +14,6 @@ totalsLine t =
     ++ ascii " refused " ++ numeral (t .refused)
     ++ ascii " dropped " ++ numeral (t .dropped) ++ ascii "\n"
 
--- "20 [..] a buffer too short to write to" (01, Refusal numbers)
+-- 20: "[..] a buffer too short to write to" (01, Refusal numbers)
 unfoldable pub writeTotals : Totals → List ℕ → Outcome
 writeTotals t buffer = writing true (totalsLine t) buffer

@@ -29,7 +29,8 @@ abbrev pub gpsCarries : GpsTime → Bool
 gpsCarries g = positionCarried (g .position)
 
 text-fits : (g : GpsTime) → FitsLayout gpsLayout (gpsText g)
-unfolding gpsLayout gpsText lineOf pzfText offsetText positionText angleBytes aligned padded ascii digits fitsFrom allowed
+unfolding
+    gpsLayout gpsText lineOf pzfText offsetText positionText angleBytes aligned padded ascii digits fitsFrom allowed
 text-fits g =
     let t = g .time in
     tested-fits gpsLayout (gpsText g) refl

@@ -2,7 +2,7 @@
 -- nothing.
 use Prim.Native.Nat.{ℕ}
 use mathlib.Core.Path.{_≡_, refl}
-use mathlib.Core.Bool.{Bool, true, false, _&&_}
+use mathlib.Core.Bool.{Bool, true, false}
 use mathlib.Core.List.{List}
 use lib.Dec.{lit<, lit≤}
 use lib.ListN.{getD}
@@ -16,9 +16,9 @@ use Rattle.decimal.specs.Decimal.{digits}
 use Rattle.layout.specs.Ascii.{ascii}
 use Rattle.layout.specs.Layout.{allowed, fitsFrom, FitsLayout, number, has}
 use Rattle.layout.proofs.LayoutLaws.{tested-fits}
-use Rattle.layout.proofs.DecideLaws.{digit-fits, letter-fits, letter-read, Written, written, DecidesClock}
+use Rattle.layout.proofs.DecideLaws.{digit-fits, letter-fits, letter-read, written, DecidesClock}
 use Rattle.layout.proofs.WriteLaws.{restore-fits, digits-number, digits-year, letter-back}
-use Rattle.meinberg_pzf.specs.Pzf.{pzfLayout, pzfOffset, pzfFields, pzfText, pzfCarries, pzf, writePzf}
+use Rattle.meinberg_pzf.specs.Pzf.{pzfLayout, pzfOffset, pzfFields, pzfText, pzfCarries}
 
 -- the offset is 0 exactly if t says so, whatever x is
 offset-back : (utc summer : Bool) → eqℤ (pzfOffset utc summer) (pos 0) ≡ utc

@@ -20,11 +20,10 @@ use Rattle.decimal.specs.Decimal.{digits}
 use Rattle.layout.specs.Ascii.{ascii}
 use Rattle.layout.specs.Layout.{allowed, fitsFrom, FitsLayout, number}
 use Rattle.layout.proofs.LayoutLaws.{tested-fits}
-use Rattle.layout.proofs.DecideLaws.{digit-fits, letter-fits, letter-read, Written, written, DecidesClock}
+use Rattle.layout.proofs.DecideLaws.{digit-fits, letter-fits, letter-read, written, DecidesClock}
 use Rattle.layout.proofs.WriteLaws.{restore-fits, digits-number, digits-year, letter-back, either-all}
 use Rattle.meinberg_standard.specs.Standard.{standardLayout, standardZone, standardFields}
 use Rattle.meinberg_standard.specs.Standard.{zoneLetter, announcedLetter, standardText, standardCarries}
-use Rattle.meinberg_standard.specs.Standard.{standard, writeStandard}
 
 zone-back : (b : ℕ) → (eqb b 32 || eqb b (code "U") || eqb b (code "S")) ≡ true
     → zoneLetter (standardZone b) (eqb b (code "S")) ≡ b

@@ -8,7 +8,7 @@ use mathlib.Core.Option.{none, some}
 use lib.Dec.{eqb, ltb}
 use lib.ListN.{length, getD, set, length-set}
 use borrow.Author.Tests.{lt-ltb, le-ltb, le-leb, lt-leb, eq-eqb, eqb-true, ltb-false}
-use Rattle.clock_time.specs.Errors.{Answer, accepted, refused, errorNumber, given, checked}
+use Rattle.clock_time.specs.Errors.{accepted, refused, errorNumber, given, checked}
 use Rattle.clock_time.specs.Exit.{Exit}
 use Rattle.clock_time.specs.declared.Error.{Error}
 use Rattle.clock_time.proofs.ErrorLaws.{accepted-passes}

@@ -1,9 +1,6 @@
 -- `fields_writer::write_string` meets its contract. Assumes nothing.
 use borrow.Author.Needs.{needs}
-use native.Mathlib.Omega.{arith}
-use denote.Ref.{now}
 use Rattle.fields_writer.specs.Writers.{kindNamed, writeFrom}
-use Rattle.fields_writer.proofs.KindLaws.{write-unknown, write-plain}
 use Rattle.fields_writer.proofs.write_string.Statement.{statement}
 use Rattle.fields_writer.proofs.write_string.Tie as tie
 

@@ -24,8 +24,11 @@ fn flags_text(t: ClockTime) -> [u8; 7]
     ]
 }
 
+// The bytes of a line, its line feed included.
+pub type LineBytes = [u8; 35];
+
 // The line with the fields of `t`, the bytes of its offset and of its flags.
-pub fn line_of(t: ClockTime) -> [u8; 35]
+pub fn line_of(t: ClockTime) -> LineBytes
     ensures { λ r. ⌜ r ≡ lineOf t ⌝ }
 {
     let zone = meinberg_gps_writer::parts::offset_text(t.utc_offset);

@@ -26,7 +26,7 @@ unfolding eqℤ
 zone-summer true = refl
 zone-summer false = refl
 
-pub accepted-summer : (m : List ℕ) (a : MinuteTime) → readMinute m ≡ accepted a
+pub fields-summer : (m : List ℕ) (a : MinuteTime) → a ≡ minuteFields m
     → eqℤ (a .time .«utc_offset») (pos 120) ≡ a .time .«summer_time»
 unfolding minuteFields announced
-accepted-summer m a h = rw (read-accepts m a h .1) (zone-summer (long 17 m))
+fields-summer m a h = rw h (zone-summer (long 17 m))

@@ -55,19 +55,36 @@ pub fn read_minute(m: &[u8]) -> MinuteAnswer
 pub fn run_number(m: &[u8]) -> u32
     ensures { λ r. ⌜ r ≡ runNumber (now (m .entry)) ⌝ }
 {
-    match read_minute(m) {
-        MinuteAnswer::Read(minute) => {
-            let t = minute.time;
-            let d = minute.detail;
-            let flags = numbering::flags_number(
-                d.sixty,
-                t.summer_time,
-                t.alternate_antenna,
-                t.dst_change_announced,
-                t.leap_second_announced,
-            );
-            numbering::minute_number(t.year, t.month, t.day, t.hour, t.minute, flags)
-        }
-        MinuteAnswer::Refused(e) => clock_time::error_number(e) as u32,
+    if !((m.len() == 59) | (m.len() == 60)) {
+        return 11;
     }
+    if !marks::all_sure(m) {
+        return 12;
+    }
+    let minute = marks::read_eight(m, 21);
+    let hour = marks::read_hour(m);
+    let date = marks::read_date(m);
+    let in_marks = reading::marks_error(m, minute, hour, date);
+    if in_marks != 0 {
+        return in_marks as u32;
+    }
+    let a = reading::fields(m, minute, hour, date);
+    let t = a.time;
+    let in_date = reading::date_error(t.weekday, t.year, t.month, t.day);
+    if in_date != 0 {
+        return in_date as u32;
+    }
+    let in_time = reading::time_error(m, t.hour, t.minute);
+    if in_time != 0 {
+        return in_time as u32;
+    }
+    let d = a.detail;
+    let flags = numbering::flags_number(
+        d.sixty,
+        t.summer_time,
+        t.alternate_antenna,
+        t.dst_change_announced,
+        t.leap_second_announced,
+    );
+    numbering::minute_number(t.year, t.month, t.day, t.hour, t.minute, flags)
 }

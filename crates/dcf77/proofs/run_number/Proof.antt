@@ -1,43 +1,136 @@
--- `dcf77::run_number` meets its contract: a minute that was read has a known date, and the offset 120 in summer.
--- Assumes nothing.
+-- `dcf77::run_number` meets its contract: the checks are gone through part by part. Assumes nothing.
 use borrow.Author.Needs.{needs}
 use native.Mathlib.Omega.{arith}
-use mathlib.Core.Path.{sym, ap, _∙_}
-use Rattle.dcf77.specs.Minute.{minuteAnswer, runNumber}
-use Rattle.dcf77.proofs.RunLaws.{accepted-known, accepted-summer}
+use mathlib.Core.Path.{_≡_, sym, ap, _∙_}
+use denote.Ref.{now}
+use borrow.Author.Tests.{not-false}
+use Rattle.clock_time.specs.Errors.{accepted, checked}
+use Rattle.dcf77.specs.Minute.{minuteChecks, readMinute, outcomeNumber, runNumber}
+use Rattle.dcf77.specs.Numbers.{Sure, Numbers, timeChecks}
+use Rattle.dcf77.proofs.CheckLaws.{length-between, fieldChecks}
+use Rattle.dcf77.proofs.CheckLaws.{marks-stop, marks-pass, date-stop, date-pass, time-stop, time-pass}
+use Rattle.dcf77.proofs.RunLaws.{accepted-known, fields-summer}
 use Rattle.dcf77.proofs.run_number.Statement.{statement}
 use Rattle.dcf77.proofs.run_number.Tie as tie
 
-minute-number-requires : tie.Need-minute-number-requires
-minute-number-requires c κs =
-    let t = c .before .before .before .before in
-    let read = sym (t .before .before .read-minute .ensures) ∙ ap minuteAnswer (t .minute .given .1) in
-    (accepted-known _ _ read, c .flags-number .ensures .0)
-
 returns : tie.Need-returns
-unfolding runNumber
-returns c =
-    let t = c .before .before .before .before .before in
-    let read = sym (t .before .before .read-minute .ensures) ∙ ap minuteAnswer (t .minute .given .1) in
-    rw read
-    (simp (c .minute-number .ensures, c .before .flags-number .ensures .1, accepted-summer _ _ read) (omega arith))
+unfolding runNumber readMinute minuteChecks
+returns c = simp (c .if1 .taken)
+
+all-sure-requires : tie.Need-all-sure-requires
+all-sure-requires c κs = length-between _ (c .if1 .left)
 
 returns-2 : tie.Need-returns-2
+unfolding runNumber readMinute minuteChecks
+returns-2 c = simp (c .before .before .if1 .left, ← (c .before .all-sure .ensures), c .if2 .taken)
+
+-- ---- a run of sure marks
+sure : (c : tie.Else2) → Sure (now (c .before .before .before .before .args .m))
+sure c =
+    record {
+      long = length-between _ (c .before .before .if1 .left) .0;
+      sure = sym (c .before .all-sure .ensures) ∙ not-false _ (c .if2 .left);
+    }
+
+read-eight-requires : tie.Need-read-eight-requires
+read-eight-requires c κs = (omega (arith, sure c .long), sure c .sure)
+
+numbers : (c : tie.After-read-date)
+    → Numbers (now (c .before .before .before .before .before .before .before .args .m))
+    (c .before .before .read-eight .result) (c .before .read-hour .result) (c .read-date .result)
+numbers c =
+    record {
+      run = sure (c .before .before .before);
+      minute = c .before .before .read-eight .ensures;
+      hour = c .before .read-hour .ensures;
+      date = c .read-date .ensures;
+    }
+
+-- ---- the fields, and the checks that are left
+fields-read : (c : tie.After-fields)
+    → let m = now (c .before .before .before .before .before .before .before .before .before .before .args .m) in
+    readMinute m ≡ checked (fieldChecks m (c .fields .result)) (c .fields .result)
+fields-read c =
+    let e = c .before .before in
+    marks-pass (numbers (e .before)) (e .before .before .before .before .before .before .if1 .left) _
+    (e .marks-error .ensures) (c .before .if3 .left) _ (c .fields .ensures)
+
+date-passed : (c : tie.Else4)
+    → let f = c .before .before .before in
+    let m = now (f .before .before .before .before .before .before .before .before .before .before .args .m) in
+    let t = f .fields .result .time in
+    readMinute m ≡ checked (timeChecks m (t .hour) (t .minute)) (f .fields .result)
+date-passed c =
+    let f = c .before .before .before in
+    date-pass _ (f .fields .result) (fields-read f) _ (c .before .date-error .ensures) (c .if4 .left)
+
+time-passed : (c : tie.Else5)
+    → let f = c .before .before .before .before .before in
+    let m = now (f .before .before .before .before .before .before .before .before .before .before .args .m) in
+    readMinute m ≡ accepted (f .fields .result)
+time-passed c =
+    let e = c .before in
+    let f = e .before .before .before .before in
+    time-pass _ (f .fields .result) (date-passed (e .before)) _ (e .time-error .ensures) (c .if5 .left)
+
+-- ---- errors
+returns-3 : tie.Need-returns-3
 unfolding runNumber
-returns-2 c =
-    let t = c .before .before in
-    rw (← (t .before .before .read-minute .ensures), t .e .given .1) (c .error-number .ensures)
+returns-3 c =
+    let e = c .before in
+    sym (ap outcomeNumber (marks-stop (numbers (e .before))
+    (e .before .before .before .before .before .before .if1 .left) _ (e .marks-error .ensures) (c .if3 .taken)))
+
+returns-4 : tie.Need-returns-4
+unfolding runNumber
+returns-4 c =
+    let e = c .before in
+    let f = e .before .before in
+    sym (ap outcomeNumber
+    (date-stop _ (f .fields .result) (fields-read f) _ (e .date-error .ensures) (c .if4 .taken)))
+
+returns-5 : tie.Need-returns-5
+unfolding runNumber
+returns-5 c =
+    let e = c .before in
+    let f = e .before .before .before .before in
+    sym (ap outcomeNumber
+    (time-stop _ (f .fields .result) (date-passed (e .before)) _ (e .time-error .ensures) (c .if5 .taken)))
+
+-- ---- the number of the minute
+minute-number-requires : tie.Need-minute-number-requires
+minute-number-requires c κs =
+    (accepted-known _ _ (time-passed (c .before .before)), c .flags-number .ensures .0)
+
+returns-6 : tie.Need-returns-6
+unfolding runNumber
+returns-6 c =
+    let e = c .before .before .before in
+    let f = e .before .before .before .before .before in
+    let summer = fields-summer _ _ (f .fields .ensures) in
+    rw (time-passed e)
+    (simp (c .minute-number .ensures, c .before .flags-number .ensures .1, summer) (omega arith))
 
 pub run-number-spec : {M : Type 1} → statement M
 run-number-spec =
     tie.close
     (tie.spec
+    returns
+    all-sure-requires
+    returns-2
+    read-eight-requires
+    (λ c κs. sure (c .before))
+    (λ c κs. sure (c .before .before))
+    (λ c κs. sure (c .before .before .before))
+    (λ c. search needs)
+    returns-3
+    (λ c κs. numbers (c .before .before))
     (λ c κs. search needs)
     (λ c. search needs)
+    returns-4
+    (λ c κs. numbers (c .before .before .before .before .before .before) .run)
+    (λ c. search needs)
+    returns-5
     (λ c κs. search needs)
     minute-number-requires
-    (λ c. search needs)
-    (λ c κs. search needs)
-    (λ c. search needs)
-    returns
-    returns-2)
+    returns-6)

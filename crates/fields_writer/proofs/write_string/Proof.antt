@@ -23,7 +23,8 @@ returns-3 c =
     let w = c .before .before in
     let i = w .before .before in
     let x = i .before .before .before .args in
-    rw (← (write-plain (x .kind) (now (x .fields)) (now (x .out)) (omega arith) (i .if2 .left))) (w .write-plain .ensures)
+    rw (← (write-plain (x .kind) (now (x .fields)) (now (x .out)) (omega arith) (i .if2 .left)))
+    (w .write-plain .ensures)
 
 pub write-string-spec : {M : Type 1} → statement M
 write-string-spec =

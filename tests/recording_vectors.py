@@ -44,7 +44,8 @@ def answer_of(rule, *arguments):
 
 
 def number_at(sheet, place):
-    return f"{place}:{sheet[place]}" if place < len(sheet) else "-"
+    """The sheet is the start of 100,001 numbers, and those after it hold 7."""
+    return sheet[place] if place < len(sheet) else 7 if place < recording_rules.MARKS else 0
 
 
 # What each command answers: the line, and the answer.
@@ -62,14 +63,15 @@ def fill(count, tape):
 
 
 def corrected(line, tape, sheet, place, mark):
-    """The numbers at the place and at the first gap after it, then the sums of the tape, the sheet and the sheet made anew."""
+    """The numbers at the place and at the first gap after it, or else the end; then the sums of the tape, of the sheet, and
+    of the sheet made anew."""
     marks = list(tape.marks)
-    answer = answer_of(recording_rules.correct, marks, sheet, place, mark)
+    numbers = [answer_of(recording_rules.correct, marks, sheet, place, mark)]
     gap = recording_rules.next_gap(marks, place)
-    numbers = f"{number_at(sheet, place)} {number_at(sheet, max(place + 1, len(marks)) if gap is None else gap)}"
-    sums = f"{total(marks)} {total(sheet)}"
+    end = max(place + 1, len(marks))
+    numbers += [number_at(sheet, place), number_at(sheet, end if gap is None else gap), total(marks), total(sheet)]
     answer_of(recording_rules.fill, marks, sheet)
-    return line, f"{answer} {numbers} {sums} {total(sheet)}"
+    return line, " ".join(map(str, (*numbers, total(sheet))))
 
 
 def correct(place, mark, tape):

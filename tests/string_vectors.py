@@ -34,8 +34,8 @@ def fields(r):
 
 
 def answer_of(number, r):
-    """What was read is written back as the same bytes."""
-    return f"refused {number}" if number else f"{fields(r)} same"
+    """The last 1 says that what was read is written back as the same bytes."""
+    return f"refused {number}" if number else f"{fields(r)} 1"
 
 
 def read(kind, s):
@@ -65,12 +65,12 @@ def write(kind, r, room):
 
 
 def digits(text):
-    """At most 19 digits; else the place of the first byte that is none."""
+    """At most 19 digits; else 3, and 100 more for each place before the first byte that is none."""
     s = text.encode()
     if len(s) > 19:
         return f"digits: {text}", "refused 1"
     bad = [i for i, b in enumerate(s) if not 48 <= b <= 57]
-    return f"digits: {text}", f"refused 3 at {bad[0]}" if bad else str(int(text or "0"))
+    return f"digits: {text}", f"refused {3 + 100 * bad[0]}" if bad else str(int(text or "0"))
 
 
 def number(value, count, room):

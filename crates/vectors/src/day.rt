@@ -14,17 +14,9 @@ fn number(x: u32) -> i32 {
     (x % 65536) as i32
 }
 
-fn flag(on: bool) -> i32 {
-    if on { 1 } else { 0 }
-}
-
-fn offset(summer: bool) -> i32 {
-    if summer { 120 } else { 60 }
-}
-
 // What the minute of this number announces. Summer time ends after three hours.
 fn minute_at(i: u32) -> [i32; 16] {
-    let summer = i < 180;
+    let summer = (i < 180) as u32 % 2;
     let day = i / 1440 % 4;
     [
         2006,
@@ -34,15 +26,15 @@ fn minute_at(i: u32) -> [i32; 16] {
         number(i / 60 % 24),
         number(i % 60),
         0,
-        offset(summer),
+        number(60 + 60 * summer),
         0,
         0,
-        flag(summer),
-        flag(i / 60 == 2),
-        flag((1440 < i) & (i <= LEAP)),
-        flag(i % 7 == 0),
+        number(summer),
+        number((i / 60 == 2) as u32),
+        number(((1440 < i) & (i <= LEAP)) as u32),
+        number((i % 7 == 0) as u32),
         number(i % 16384),
-        flag(i == LEAP),
+        number((i == LEAP) as u32),
     ]
 }
 
@@ -55,12 +47,11 @@ fn write_at(m: &mut [u8], at: usize, fields: &[i32]) -> usize {
     count
 }
 
-// The place after so many marks from `at` on, which are a minute's.
-fn place_after(at: usize, count: usize) -> usize {
+// Puts a gap, and returns the place after it; nothing past the end.
+fn put_gap(m: &mut Recording, at: usize) -> usize {
     if at < 100001 {
-        if count <= 60 {
-            return at + count;
-        }
+        m[at] = 2;
+        return at + 1;
     }
     at
 }
@@ -72,12 +63,7 @@ fn put_minute(m: &mut Recording, at: usize, i: u32) -> usize {
     if count == 0 {
         return at;
     }
-    let gap = place_after(at, count);
-    if gap < 100001 {
-        m[gap] = 2;
-        return gap + 1;
-    }
-    gap
+    put_gap(m, std::num::wrapping_add_usize(at, count))
 }
 
 pub fn make(m: &mut Recording) {

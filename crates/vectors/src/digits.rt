@@ -1,27 +1,25 @@
 // The commands on runs of digits: `digits` reads one, `number` writes one into a lent buffer.
+use crate::commands;
 use crate::numbers;
 use crate::numbers::Numbers;
-use crate::output;
-use crate::output::Buffer;
 use crate::text;
+use crate::text::Text;
 use clock_time::WriteAnswer;
 use decimal::DigitsRead;
 
-fn put_read(out: &mut Buffer, n: usize, answer: DigitsRead) -> usize {
+// A byte that is no digit is refused with 3, and 100 more for each place before it.
+fn number_read(answer: DigitsRead) -> u64 {
     match answer {
-        DigitsRead::Number(number) => output::put_number(out, n, number),
-        DigitsRead::NotDigit(place) => {
-            let m = output::put_all(out, n, b"refused 3 at ");
-            output::put_number(out, m, place as u64)
-        }
-        DigitsRead::TooLong => output::put_all(out, n, b"refused 1"),
+        DigitsRead::Number(number) => number,
+        DigitsRead::NotDigit(place) => numbers::REFUSED + 3 + 100 * (place % 256) as u64,
+        DigitsRead::TooLong => numbers::REFUSED + 1,
     }
 }
 
-fn put_written(out: &mut Buffer, n: usize, answer: WriteAnswer) -> usize {
+fn count_written(answer: WriteAnswer) -> u64 {
     match answer {
-        WriteAnswer::Written(count) => output::put_number(out, n, count as u64),
-        WriteAnswer::Refused(e) => output::put_answer(out, n, clock_time::error_number(e), 0),
+        WriteAnswer::Written(count) => count as u64,
+        WriteAnswer::Refused(e) => numbers::answered(clock_time::error_number(e), 0),
     }
 }
 
@@ -33,22 +31,10 @@ fn write(number: u64, count: usize, space: &mut [u8], room: usize) -> WriteAnswe
     decimal::write_digits(number, count, &mut space[0..room])
 }
 
-// Puts the answer to a command of this module, and nothing for any other word.
-pub fn answer(word: &[u8], v: &Numbers, text: &[u8], out: &mut Buffer, n: usize) -> usize {
-    if numbers::is_command(word, b"digits", v, b"") {
-        return put_read(out, n, decimal::read_digits(text));
+// The answer to a command of this module.
+pub fn answer(word: u64, v: &Numbers, space: &mut Text, length: usize) -> u64 {
+    if word == commands::DIGITS {
+        return number_read(decimal::read_digits(text::start(space, length)));
     }
-    if numbers::is_command(word, b"number", v, b"NNN") {
-        let mut space = [b'.'; 80];
-        let room = numbers::at(v, 3) as usize;
-        let answer = write(
-            numbers::at(v, 1),
-            numbers::at(v, 2) as usize,
-            &mut space,
-            room,
-        );
-        let m = put_written(out, n, answer);
-        return output::put_text(out, m, text::first(&space, room), 0);
-    }
-    n
+    count_written(write(v[1], v[2] as usize, space, v[3] as usize))
 }

@@ -1,6 +1,7 @@
 // Runs a table of commands: writes each line of standard input with what the library answers. A command is a word, then
 // numbers, each after a blank, and perhaps a text, after a colon and a blank. Headings, which start with `#`, and empty
 // lines are only copied.
+mod commands;
 mod dates;
 mod day;
 mod digits;
@@ -12,6 +13,7 @@ mod text;
 
 use crate::numbers::Numbers;
 use crate::output::Buffer;
+use crate::text::Text;
 use libc::STDIN_FILENO;
 
 type Table = [u8; 1048576];
@@ -19,34 +21,49 @@ type Table = [u8; 1048576];
 // So many bytes are worth a write. The buffer has as much room again, for one more line and its answer.
 const ENOUGH: usize = 32768;
 
-// Puts the answer to a command, and nothing for any other word.
-fn answer(word: &[u8], v: &Numbers, text: &[u8], out: &mut Buffer, at: usize) -> usize {
-    let mut n = at;
-    n = dates::answer(word, v, out, n);
-    n = digits::answer(word, v, text, out, n);
-    n = strings::answer(word, v, text, out, n);
-    recordings::answer(word, v, text, out, n)
+// Adds the answer to a command, whose text is the first bytes of the space.
+fn answer(word: u64, v: &Numbers, space: &mut Text, length: usize, a: &mut Numbers) {
+    match commands::group_of(word) {
+        commands::DATES => numbers::add(a, dates::answer(word, v)),
+        commands::NUMERALS => numbers::add(a, digits::answer(word, v, space, length)),
+        commands::STRINGS => strings::answer(word, v, space, length, a),
+        _ => recordings::answer(word, v, text::start(space, length), a),
+    }
+}
+
+// Puts the answer to a command with this text: numbers, and the buffer lent where it wrote.
+fn put_command(word: u64, v: &Numbers, s: &[u8], out: &mut Buffer, at: usize) -> usize {
+    let base = commands::base_of(word, v);
+    let mut space = [b'.'; 256];
+    let mut a = [0u64; 24];
+    let length = text::decode(s, base, &mut space);
+    answer(word, v, &mut space, length, &mut a);
+    let n = output::put_numbers(out, at, &a);
+    if commands::writes(word) {
+        return output::put_text(out, n, &space, numbers::last(v), base);
+    }
+    n
 }
 
 // Puts the answer to a line, a question mark where it is no command.
 fn put_answer(line: &[u8], out: &mut Buffer, at: usize) -> usize {
-    let n = output::put_all(out, at, b" = ");
+    let n = output::put_all(out, at, b" =");
     let colon = text::place_of(line, 0, b':');
     let head = text::first(line, colon);
     let blank = text::place_of(head, 0, b' ');
+    let word = text::pack(text::first(head, blank));
     let mut v = [0u64; 24];
     numbers::read_all(head, blank, &mut v);
-    let word = text::first(head, blank);
-    let end = answer(word, &v, text::after(line, colon), out, n);
-    if end == n {
-        return output::put(out, n, b'?');
+    if commands::is_known(word, &v) {
+        return put_command(word, &v, text::after(line, colon), out, n);
     }
-    end
+    output::put_all(out, n, b" ?")
 }
 
 fn put_line(line: &[u8], out: &mut Buffer, at: usize) -> usize {
     let mut n = output::put_all(out, at, line);
-    if !text::is_heading(line) {
+    let b = text::byte_at(line, 0);
+    if (b != 0) & (b != b'#') {
         n = put_answer(line, out, n);
     }
     output::put(out, n, b'\n')

@@ -1,141 +1,106 @@
-// The numbers of a command, as 64 bits, with the two's complement for those below zero. They start at place 1; place 0
-// holds how many they are.
-use decimal::is_digit;
+// Lists of numbers: those of a command, and those of its answer. A number is 64 bits, below zero the two's complement;
+// from 10 ^ 19 on it is a refusal. Place 0 has how many they are.
+use decimal::DigitsRead;
 
 pub type Numbers = [u64; 24];
 
-// What place 0 holds of a line that is no list of numbers.
-const NONE: u64 = 99;
+// A refusal's number is added to this, which stands by itself for what is no number.
+pub const REFUSED: u64 = 10000000000000000000;
 
-// A value, and the place after it: where it starts if there is none.
-struct Number {
-    value: u64,
-    end: usize,
+// What a call left, or its refusal, which is not 0.
+pub fn answered(refusal: u8, value: u64) -> u64 {
+    if refusal == 0 {
+        return value;
+    }
+    REFUSED + refusal as u64
 }
 
-// A value with one more digit, which the low four bits of its byte give. A value of 19 digits stays as it is: no number
-// here may be as large.
-fn append_digit(value: u64, digit: u8) -> u64 {
-    if value < 1000000000000000000 {
-        return 10 * value + (digit % 16) as u64;
+fn unsigned(s: &[u8]) -> u64 {
+    if s.len() == 0 {
+        return REFUSED;
     }
-    value
-}
-
-fn read_digits(s: &[u8], at: usize) -> Number {
-    let mut value = 0;
-    let mut i = at;
-    while i < s.len() {
-        let b = s[i];
-        if !is_digit(b) {
-            break;
-        }
-        value = append_digit(value, b);
-        i += 1;
-    }
-    Number { value, end: i }
-}
-
-// The number of this size below zero; the end is 0 where it has no digit from `start` on.
-fn negated(size: Number, start: usize) -> Number {
-    let end = size.end;
-    if end <= start {
-        return Number { value: 0, end: 0 };
-    }
-    Number {
-        value: std::num::wrapping_sub_u64(0, size.value),
-        end,
+    match decimal::read_digits(s) {
+        DigitsRead::Number(n) => n,
+        DigitsRead::NotDigit(_) => REFUSED,
+        DigitsRead::TooLong => REFUSED,
     }
 }
 
-fn read(s: &[u8], at: usize) -> Number {
-    if at < s.len() {
-        if s[at] == b'-' {
-            return negated(read_digits(s, at + 1), at + 1);
+// The number that s is: digits, after a minus sign or none.
+fn number(s: &[u8]) -> u64 {
+    if 0 < s.len() {
+        if s[0] == b'-' {
+            return std::num::wrapping_sub_u64(0, unsigned(&s[1..]));
         }
     }
-    read_digits(s, at)
+    unsigned(s)
 }
 
-// The number after the blank at `at`; its end is not past the blank where there is none.
-fn read_after_blank(s: &[u8], at: usize) -> Number {
-    if at < s.len() {
-        if s[at] == b' ' {
-            return read(s, at + 1);
-        }
-    }
-    Number { value: 0, end: 0 }
-}
-
-// Puts a number after the first `count`, and returns how many they are then; nothing where there is no place.
-fn put(v: &mut Numbers, count: u64, value: u64) -> u64 {
+// Adds a number, where there is a place.
+pub fn add(v: &mut Numbers, value: u64) {
+    let count = v[0];
     if count < 23 {
         v[(count + 1) as usize] = value;
-        return count + 1;
+        v[0] = count + 1;
     }
-    NONE
 }
 
-// Puts the numbers of s from `start` on.
+// Adds the numbers of s, each after a blank, of which the first is at `start`.
 pub fn read_all(s: &[u8], start: usize, v: &mut Numbers) {
-    let mut count = 0;
     let mut at = start;
     while at < s.len() {
-        let number = read_after_blank(s, at);
-        if number.end <= at + 1 {
-            v[0] = NONE;
-            return;
-        }
-        count = put(v, count, number.value);
-        at = number.end;
+        let end = crate::text::place_of(s, at + 1, b' ');
+        add(v, number(&s[at + 1..end]));
+        at = end;
     }
-    v[0] = count;
 }
 
 // The number at a place; 0 where there is no such place.
-pub fn at(v: &Numbers, i: usize) -> u64 {
+fn at(v: &Numbers, i: u64) -> u64 {
     if i < 24 {
-        return v[i];
+        return v[i as usize];
     }
     0
 }
 
-// True where a value is of the type that a letter stands for: `B` a u8, `W` a u16, `I` an i16, any other a u64.
-fn is_of(kind: u8, value: u64) -> bool {
+pub fn last(v: &Numbers) -> usize {
+    at(v, v[0]) as usize
+}
+
+// True for a number of this type: 1 is a u8, 2 a u16, 3 an i16, 4 a u64, and there is no other.
+fn is_of(kind: u64, value: u64) -> bool {
     match kind {
-        b'B' => value < 256,
-        b'W' => value < 65536,
-        b'I' => (value < 32768) | (18446744073709518848 <= value),
-        _ => true,
+        1 => value < 256,
+        2 => value < 65536,
+        3 => (value < 32768) | (18446744073709518848 <= value),
+        4 => value < REFUSED,
+        _ => false,
     }
 }
 
-// True where there is a number of its type for each letter, and no other.
-fn are_of(v: &Numbers, kinds: &[u8]) -> bool {
-    let mut all = v[0] == kinds.len() as u64;
-    let mut i = 0;
-    while i < kinds.len() {
-        all = all & is_of(kinds[i], at(v, i + 1));
-        i += 1;
+// True where the numbers are of the types that the digits of `kinds` name, the last of the last.
+pub fn are_of(v: &Numbers, kinds: u64) -> bool {
+    let mut all = true;
+    let mut rest = kinds;
+    let mut i = v[0];
+    while 0 < i {
+        all = all & is_of(rest % 10, at(v, i));
+        rest = rest / 10;
+        i -= 1;
     }
-    all
+    all & (rest == 0)
 }
 
-// True for the command of this name with numbers of these types.
-pub fn is_command(word: &[u8], name: &[u8], v: &Numbers, kinds: &[u8]) -> bool {
-    check::same(word, name) & are_of(v, kinds)
-}
-
-pub fn u8_at(v: &Numbers, i: usize) -> u8 {
+pub fn u8_at(v: &Numbers, i: u64) -> u8 {
     (at(v, i) % 256) as u8
 }
 
-pub fn u16_at(v: &Numbers, i: usize) -> u16 {
+pub fn u16_at(v: &Numbers, i: u64) -> u16 {
     (at(v, i) % 65536) as u16
 }
 
 // The low 16 bits as a signed number. Of an i16 k, `!k` is -1 - k.
-pub fn i16_at(v: &Numbers, i: usize) -> i16 {
+pub fn i16_at(v: &Numbers, i: u64) -> i16 {
     let low = at(v, i) % 65536;
     if low < 32768 {
         return low as i16;
@@ -144,7 +109,7 @@ pub fn i16_at(v: &Numbers, i: usize) -> i16 {
 }
 
 // The low 32 bits as a signed number.
-fn i32_at(v: &Numbers, i: usize) -> i32 {
+fn i32_at(v: &Numbers, i: u64) -> i32 {
     let low = at(v, i) % 4294967296;
     if low < 2147483648 {
         return low as i32;
@@ -153,10 +118,30 @@ fn i32_at(v: &Numbers, i: usize) -> i32 {
 }
 
 // Puts the numbers from a place on.
-pub fn put_fields(v: &Numbers, start: usize, fields: &mut [i32]) {
+pub fn put_fields(v: &Numbers, start: u64, fields: &mut [i32]) {
     let mut i = 0;
     while i < fields.len() {
-        fields[i] = i32_at(v, std::num::wrapping_add_usize(start, i));
+        fields[i] = i32_at(v, std::num::wrapping_add_u64(start, i as u64));
+        i += 1;
+    }
+}
+
+// A signed number as 64 bits. Of an i64 k, `!k` is -1 - k.
+pub fn bits(value: i64) -> u64 {
+    if value < 0 {
+        return !((!value) as u64);
+    }
+    value as u64
+}
+
+fn wide(value: i32) -> i64 {
+    value as i64
+}
+
+pub fn add_fields(v: &mut Numbers, fields: &[i32]) {
+    let mut i = 0;
+    while i < fields.len() {
+        add(v, bits(wide(fields[i])));
         i += 1;
     }
 }

@@ -1,11 +1,11 @@
 // The commands on readings, as the C face has them: a kind is its number there, and 4 for a DCF77 minute, whose text has
-// a digit for each mark. `read` reads a text and writes it back, `kind` tells the kind first, `write` writes numbers into a
-// lent buffer, `unix` gives the Unix time of numbers, and `run` the number of a run of marks.
+// a digit for each mark. `read` reads a text, and adds 1 where it is written back the same; `kind` tells the kind first;
+// `write` writes numbers into a lent buffer; `unix` gives the Unix time of numbers, and `run` the number of a run of marks.
+use crate::commands;
 use crate::numbers;
 use crate::numbers::Numbers;
-use crate::output;
-use crate::output::Buffer;
 use crate::text;
+use crate::text::Text;
 use radio_clock::instant::radio_clock_unix_time;
 use radio_clock::minutes::radio_clock_read_minute;
 use radio_clock::minutes::radio_clock_write_minute;
@@ -14,11 +14,6 @@ use radio_clock::strings::radio_clock_read;
 use radio_clock::strings::radio_clock_write;
 
 const MINUTE: u8 = 4;
-
-// What the text of a kind shows in place of a zero byte.
-fn base_of(kind: u8) -> u8 {
-    if kind == MINUTE { b'0' } else { 0 }
-}
 
 // How many numbers a reading of this kind has.
 fn count_of(kind: u8) -> usize {
@@ -50,38 +45,35 @@ fn write(kind: u8, fields: &[i32], space: &mut [u8], count: &mut usize) -> u8 {
     radio_clock_write(kind, fields, space, count)
 }
 
-// Puts whether the numbers are written as s.
-fn put_back(out: &mut Buffer, n: usize, kind: u8, fields: &[i32], s: &[u8]) -> usize {
-    let mut space = [0u8; 80];
+// True where the numbers are written as s.
+fn are_written_as(kind: u8, fields: &[i32], s: &[u8]) -> bool {
+    let mut space = [0u8; 66];
     let mut count = 0;
     let refusal = write(kind, fields, &mut space, &mut count);
-    if (refusal == 0) & check::same(text::first(&space, count), s) {
-        return output::put_all(out, n, b"same");
-    }
-    output::put_all(out, n, b"other")
+    (refusal == 0) & check::same(text::first(&space, count), s)
 }
 
-// Puts the numbers that s is read as, and whether they are written back as s.
-fn put_read(out: &mut Buffer, at: usize, kind: u8, s: &[u8]) -> usize {
-    let mut fields = [0i32; 17];
-    let refusal = read(kind, s, &mut fields);
+// Adds the numbers that s is read as, and whether they are written back as s.
+fn add_read(kind: u8, s: &[u8], a: &mut Numbers) {
+    let mut space = [0i32; 17];
+    let refusal = read(kind, s, &mut space);
     if refusal != 0 {
-        return output::put_answer(out, at, refusal, 0);
+        numbers::add(a, numbers::answered(refusal, 0));
+        return;
     }
-    let n = output::put_fields(out, at, first(&fields, count_of(kind)));
-    put_back(out, n, kind, first(&fields, count_of(kind)), s)
+    let fields = first(&space, count_of(kind));
+    numbers::add_fields(a, fields);
+    numbers::add(a, are_written_as(kind, fields, s) as u64);
 }
 
-// Puts the kind of s, and what it is read as.
-fn put_kind(out: &mut Buffer, at: usize, s: &[u8]) -> usize {
+// Adds the kind of s, and what it is read as.
+fn add_kind(s: &[u8], a: &mut Numbers) {
     let mut kind = 0;
     let refusal = radio_clock_kind(s, &mut kind);
-    let n = output::put_answer(out, at, refusal, kind as u64);
-    if refusal != 0 {
-        return n;
+    numbers::add(a, numbers::answered(refusal, kind as u64));
+    if refusal == 0 {
+        add_read(kind, s, a);
     }
-    let m = output::put(out, n, b' ');
-    put_read(out, m, kind, s)
 }
 
 // Writes into the first `room` bytes of the space, or into all where they are fewer.
@@ -92,69 +84,37 @@ fn write_in(kind: u8, fields: &[i32], space: &mut [u8], room: usize, count: &mut
     write(kind, fields, &mut space[0..room], count)
 }
 
-// Puts what a writer answers for all numbers but the kind and the room, and the buffer that it was lent.
-fn put_written(out: &mut Buffer, at: usize, v: &Numbers) -> usize {
-    let kind = numbers::u8_at(v, 1);
+// What the writer of a kind answers for all numbers but the kind, the first, and the room, the last.
+fn written(v: &Numbers, space: &mut Text) -> u64 {
     let mut fields = [0i32; 17];
     numbers::put_fields(v, 2, &mut fields);
-    if v[0] < 2 {
-        return at;
-    }
-    let room = numbers::at(v, v[0] as usize) as usize;
-    let mut space = [b'.'; 80];
+    let given = first(&fields, std::num::wrapping_sub_u64(v[0], 2) as usize);
     let mut count = 0;
     let refusal = write_in(
-        kind,
-        first(&fields, (v[0] - 2) as usize),
-        &mut space,
-        room,
+        numbers::u8_at(v, 1),
+        given,
+        space,
+        numbers::last(v),
         &mut count,
     );
-    let n = output::put_answer(out, at, refusal, count as u64);
-    output::put_text(out, n, text::first(&space, room), base_of(kind))
+    numbers::answered(refusal, count as u64)
 }
 
-fn put_unix_time(out: &mut Buffer, n: usize, v: &Numbers) -> usize {
-    let mut fields = [0i32; 17];
+fn unix_time(v: &Numbers) -> u64 {
+    let mut fields = [0i32; 14];
     numbers::put_fields(v, 1, &mut fields);
     let mut time = 0;
     let refusal = radio_clock_unix_time(&fields, &mut time);
-    if refusal != 0 {
-        return output::put_answer(out, n, refusal, 0);
-    }
-    output::put_signed(out, n, time)
+    numbers::answered(refusal, numbers::bits(time))
 }
 
-// Puts the answers to `read`, `kind` and `run`.
-fn put_text_answer(word: &[u8], v: &Numbers, text: &[u8], out: &mut Buffer, n: usize) -> usize {
-    let mut space = [0u8; 256];
-    if numbers::is_command(word, b"read", v, b"B") {
-        let kind = numbers::u8_at(v, 1);
-        let length = text::decode(text, base_of(kind), &mut space);
-        return put_read(out, n, kind, text::first(&space, length));
+// Adds the answer to a command of this module.
+pub fn answer(word: u64, v: &Numbers, space: &mut Text, length: usize, a: &mut Numbers) {
+    match word {
+        commands::WRITE => numbers::add(a, written(v, space)),
+        commands::UNIX => numbers::add(a, unix_time(v)),
+        commands::RUN => numbers::add(a, dcf77::run_number(text::start(space, length)) as u64),
+        commands::KIND => add_kind(text::start(space, length), a),
+        _ => add_read(numbers::u8_at(v, 1), text::start(space, length), a),
     }
-    if numbers::is_command(word, b"kind", v, b"") {
-        let length = text::decode(text, 0, &mut space);
-        return put_kind(out, n, text::first(&space, length));
-    }
-    if numbers::is_command(word, b"run", v, b"") {
-        let length = text::decode(text, b'0', &mut space);
-        return output::put_number(
-            out,
-            n,
-            dcf77::run_number(text::first(&space, length)) as u64,
-        );
-    }
-    n
-}
-
-// Puts the answer to a command of this module, and nothing for any other word.
-pub fn answer(word: &[u8], v: &Numbers, text: &[u8], out: &mut Buffer, n: usize) -> usize {
-    if check::same(word, b"write") {
-        return put_written(out, n, v);
-    }
-    if numbers::is_command(word, b"unix", v, b"WBBBBBBI") {
-        return put_unix_time(out, n, v);
-    }
-    put_text_answer(word, v, text, out, n)
 }

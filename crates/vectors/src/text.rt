@@ -3,6 +3,9 @@
 ghost use Prim.Native.Nat.{_≤_, max};
 ghost use lib.ListN.{length};
 
+// The bytes of a text, or of a lent buffer: no line has more.
+pub type Text = [u8; 256];
+
 // The place of the first such byte from `at` on, or the end; `at` itself where that is past the end.
 pub fn place_of(s: &[u8], at: usize, byte: u8) -> usize
     ensures { λ r. ⌜ (at ≤ r) × (r ≤ max at (length (now (s .entry)))) ⌝ }
@@ -17,20 +20,16 @@ pub fn place_of(s: &[u8], at: usize, byte: u8) -> usize
     i
 }
 
-// True for an empty line and for one that starts with `#`.
-pub fn is_heading(line: &[u8]) -> bool {
-    if 0 < line.len() {
-        return line[0] == b'#';
-    }
-    true
-}
-
 // The first n bytes of s, or all where they are fewer.
 pub fn first(s: &[u8], n: usize) -> &[u8] {
     if s.len() < n {
         return s;
     }
     &s[0..n]
+}
+
+pub fn start(space: &Text, n: usize) -> &[u8] {
+    first(space, n)
 }
 
 // The bytes of s from two after `at` on, or none where they are fewer.
@@ -43,11 +42,26 @@ pub fn after(s: &[u8], at: usize) -> &[u8] {
     &s[0..0]
 }
 
-fn byte_at(s: &[u8], i: usize) -> u8 {
+pub fn byte_at(s: &[u8], i: usize) -> u8 {
     if i < s.len() {
         return s[i];
     }
     0
+}
+
+fn append(value: u64, b: u8) -> u64 {
+    value % 72057594037927936 * 256 + b as u64
+}
+
+// The last eight bytes as one number.
+pub fn pack(s: &[u8]) -> u64 {
+    let mut value = 0;
+    let mut i = 0;
+    while i < s.len() {
+        value = append(value, s[i]);
+        i += 1;
+    }
+    value
 }
 
 // What a hexadecimal digit stands for: its low four bits, and 9 more for a letter.
@@ -70,26 +84,21 @@ fn width(b: u8) -> usize
 fn decode_one(s: &[u8], i: usize) -> u8 {
     let b = byte_at(s, i);
     if b == b'%' {
-        if i < s.len() {
-            let high = nibble(byte_at(s, i + 1));
-            if i + 1 < s.len() {
-                return 16 * high + nibble(byte_at(s, i + 2));
-            }
-        }
+        let high = nibble(byte_at(s, std::num::wrapping_add_usize(i, 1)));
+        return 16 * high + nibble(byte_at(s, std::num::wrapping_add_usize(i, 2)));
     }
     b
 }
 
 // Puts the bytes that a text stands for, each less `base`, as far as there is space, and returns how many they are.
-pub fn decode(s: &[u8], base: u8, space: &mut [u8]) -> usize {
+pub fn decode(s: &[u8], base: u8, space: &mut Text) -> usize {
     let mut n: usize = 0;
     let mut i = 0;
     while i < s.len() {
-        if space.len() <= n {
-            return n;
+        if n < 256 {
+            space[n] = std::num::wrapping_sub_u8(decode_one(s, i), base);
+            n += 1;
         }
-        space[n] = std::num::wrapping_sub_u8(decode_one(s, i), base);
-        n += 1;
         i += width(s[i]);
     }
     n

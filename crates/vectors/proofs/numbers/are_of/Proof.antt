@@ -1,15 +1,13 @@
--- `vectors::numbers::are_of` is safe and ends: each turn passes a letter. Assumes nothing.
-use Prim.Native.Nat.{_-_}
+-- `vectors::numbers::are_of` is safe and ends: `i` goes down. Assumes nothing.
 use borrow.Author.Needs.{needs}
-use lib.ListN.{length}
 use Rattle.vectors.proofs.numbers.are_of.Statement.{statement}
 use Rattle.vectors.proofs.numbers.are_of.Tie as tie
 
 abbrev Inv-loop : tie.InvT-loop
-Inv-loop v kinds all₀ i₀ all i = Unit {0}
+Inv-loop v kinds all₀ rest₀ i₀ all rest i = Unit {0}
 
 abbrev μ-loop : tie.MeasureT-loop
-μ-loop v kinds all₀ i₀ all i = length kinds - i
+μ-loop v kinds all₀ rest₀ i₀ all rest i = i
 
 pub are-of-spec : {M : Type 1} → statement M
 are-of-spec =
@@ -17,8 +15,6 @@ are-of-spec =
     (tie.spec
     Inv-loop
     μ-loop
-    (λ c. search needs)
-    (λ c. search needs)
     (λ c. search needs)
     (λ c. search needs)
     (λ c κs. search needs)

@@ -6,10 +6,10 @@ use Rattle.vectors.proofs.numbers.read_all.Statement.{statement}
 use Rattle.vectors.proofs.numbers.read_all.Tie as tie
 
 abbrev Inv-loop : tie.InvT-loop
-Inv-loop s start v₀ count₀ at₀ v count at = Unit {0}
+Inv-loop s start v₀ at₀ v at = Unit {0}
 
 abbrev μ-loop : tie.MeasureT-loop
-μ-loop s start v₀ count₀ at₀ v count at = length s - at
+μ-loop s start v₀ at₀ v at = length s - at
 
 pub read-all-spec : {M : Type 1} → statement M
 read-all-spec =
@@ -18,12 +18,14 @@ read-all-spec =
     Inv-loop
     μ-loop
     (λ c. search needs)
-    (λ c κs. search needs)
-    (λ c. search needs)
-    (λ c. search needs)
     (λ c. search needs)
     (λ c κs. search needs)
     (λ c. search needs)
+    (λ c. search needs)
+    (λ c. search needs)
+    (λ c. search needs)
+    (λ c κs. search needs)
+    (λ c κs. search needs)
     (λ c. search needs)
     (λ c. search needs)
     (λ c. search needs))

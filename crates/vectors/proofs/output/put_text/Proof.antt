@@ -1,15 +1,14 @@
 -- `vectors::output::put_text` is safe and ends: each turn passes a byte. Assumes nothing.
 use Prim.Native.Nat.{_-_}
 use borrow.Author.Needs.{needs}
-use lib.ListN.{length}
 use Rattle.vectors.proofs.output.put_text.Statement.{statement}
 use Rattle.vectors.proofs.output.put_text.Tie as tie
 
 abbrev Inv-loop : tie.InvT-loop
-Inv-loop out₀ at s base n₀ i₀ out n i = Unit {0}
+Inv-loop out₀ at s length base n₀ i₀ out n i = Unit {0}
 
 abbrev μ-loop : tie.MeasureT-loop
-μ-loop out₀ at s base n₀ i₀ out n i = length s - i
+μ-loop out₀ at s length base n₀ i₀ out n i = 256 - i
 
 pub put-text-spec : {M : Type 1} → statement M
 put-text-spec =
@@ -20,11 +19,12 @@ put-text-spec =
     (λ c. search needs)
     (λ c κs. search needs)
     (λ c. search needs)
+    (λ c κs. search needs)
+    (λ c. search needs)
     (λ c. search needs)
     (λ c κs. search needs)
     (λ c κs. search needs)
     (λ c. search needs)
     (λ c. search needs)
     (λ c. search needs)
-    (λ c κs. search needs)
     (λ c. search needs))

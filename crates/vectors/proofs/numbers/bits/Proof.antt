@@ -1,4 +1,4 @@
--- `vectors::output::magnitude` is safe: below zero, the bits of `value` turned over are those of a number that is not.
+-- `vectors::numbers::bits` is safe: below zero, the bits of `value` turned over are those of a number that is not.
 -- Assumes nothing.
 use borrow.Author.Needs.{needs}
 use native.Mathlib.Omega.{arith}
@@ -11,8 +11,8 @@ use mir.Syntax.{w64}
 use mir.Val.{SFits, toZ, ofZ}
 use mir.Facts.{toZ-ofZ, toZ-pos}
 use borrow.Author.Tests.{ltb-true}
-use Rattle.vectors.proofs.output.magnitude.Statement.{statement}
-use Rattle.vectors.proofs.output.magnitude.Tie as tie
+use Rattle.vectors.proofs.numbers.bits.Statement.{statement}
+use Rattle.vectors.proofs.numbers.bits.Tie as tie
 
 turned : (z : ℤ) → SFits w64 z → ltZ z (pos 0) ≡ true → toZ w64 (2 ^ 64 - 1 - ofZ w64 z) ≡ pos (mag z)
 turned (pos n) f h = absurd (let l : n < 0 = ltb-true n 0 h in omega arith)
@@ -39,12 +39,9 @@ above c =
 cast-result : tie.Need-cast-result
 cast-result c = rw (below c) (tt, omega (arith, c .before .fits .value .sfits))
 
-add-result : tie.Need-add-result
-add-result c = rw (below c) (omega (arith, c .before .fits .value .sfits))
-
 cast-result-2 : tie.Need-cast-result-2
 cast-result-2 c = rw (above c) (tt, omega (arith, c .before .fits .value .sfits))
 
-pub magnitude-spec : {M : Type 1} → statement M
-magnitude-spec =
-    tie.close (tie.spec cast-result add-result (λ c. search needs) cast-result-2 (λ c. search needs))
+pub bits-spec : {M : Type 1} → statement M
+bits-spec =
+    tie.close (tie.spec cast-result (λ c. search needs) cast-result-2 (λ c. search needs))

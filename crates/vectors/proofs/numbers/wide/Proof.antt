@@ -1,8 +1,8 @@
--- `vectors::output::wide` is safe: a wider type holds the number. Assumes nothing.
+-- `vectors::numbers::wide` is safe: a wider type holds the number. Assumes nothing.
 use borrow.Author.Needs.{needs}
 use mir.Facts.{toZ-ofZ, sfits-widen}
-use Rattle.vectors.proofs.output.wide.Statement.{statement}
-use Rattle.vectors.proofs.output.wide.Tie as tie
+use Rattle.vectors.proofs.numbers.wide.Statement.{statement}
+use Rattle.vectors.proofs.numbers.wide.Tie as tie
 
 cast-result : tie.Need-cast-result
 cast-result c = rw (toZ-ofZ (c .fits .value)) (sfits-widen tt (c .fits .value))

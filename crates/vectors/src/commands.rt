@@ -1,0 +1,101 @@
+// The commands. A word is one number, of which its bytes are the digits: `at` is 0x6174.
+use crate::numbers;
+use crate::numbers::Numbers;
+
+pub const ERROR: u64 = 0x6572726f72;
+
+pub const LEAP: u64 = 0x6c656170;
+
+pub const MONTH: u64 = 0x6d6f6e7468;
+
+pub const DATE: u64 = 0x64617465;
+
+pub const YEAR: u64 = 0x79656172;
+
+pub const DAY: u64 = 0x646179;
+
+pub const WEEKDAY: u64 = 0x7765656b646179;
+
+pub const TIME: u64 = 0x74696d65;
+
+pub const UNIX: u64 = 0x756e6978;
+
+pub const DIGITS: u64 = 0x646967697473;
+
+pub const NUMBER: u64 = 0x6e756d626572;
+
+pub const READ: u64 = 0x72656164;
+
+pub const KIND: u64 = 0x6b696e64;
+
+pub const RUN: u64 = 0x72756e;
+
+pub const WRITE: u64 = 0x7772697465;
+
+pub const AT: u64 = 0x6174;
+
+pub const FILL: u64 = 0x66696c6c;
+
+pub const CORRECT: u64 = 0x636f7272656374;
+
+pub const MEND: u64 = 0x6d656e64;
+
+pub const UNFIT: u64 = 0x756e666974;
+
+pub const DATES: u8 = 0;
+
+pub const NUMERALS: u8 = 1;
+
+pub const STRINGS: u8 = 2;
+
+pub const RECORDINGS: u8 = 3;
+
+// Which module answers a command.
+pub fn group_of(word: u64) -> u8 {
+    match word {
+        DIGITS | NUMBER => NUMERALS,
+        READ | KIND | WRITE | UNIX | RUN => STRINGS,
+        AT | FILL | CORRECT | MEND | UNFIT => RECORDINGS,
+        _ => DATES,
+    }
+}
+
+// The types of a command's numbers, a digit for each: 1 is a u8, 2 a u16, 3 an i16, 4 a u64. No number is of type 5,
+// which any other word has.
+fn types_of(word: u64) -> u64 {
+    match word {
+        KIND | DIGITS | RUN => 0,
+        ERROR | YEAR | READ => 1,
+        LEAP => 2,
+        MONTH => 21,
+        AT | FILL => 44,
+        DATE | DAY | WEEKDAY => 211,
+        NUMBER => 444,
+        TIME => 1113,
+        CORRECT | UNFIT => 4441,
+        MEND => 444144,
+        UNIX => 21111113,
+        _ => 5,
+    }
+}
+
+// True where there is such a command with numbers such as these; `write` takes any.
+pub fn is_known(word: u64, v: &Numbers) -> bool {
+    (word == WRITE) | numbers::are_of(v, types_of(word))
+}
+
+// True for a command that writes into a lent buffer, of as much room as its last number says.
+pub fn writes(word: u64) -> bool {
+    (word == WRITE) | (word == NUMBER)
+}
+
+// What the text of a command shows in place of a zero byte: that of marks, which are kind 4, has a digit for each.
+pub fn base_of(word: u64, v: &Numbers) -> u8 {
+    if (word == KIND) | (word == DIGITS) | (word == NUMBER) {
+        return 0;
+    }
+    if ((word == READ) | (word == WRITE)) & (v[1] != 4) {
+        return 0;
+    }
+    b'0'
+}

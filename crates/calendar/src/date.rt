@@ -97,7 +97,7 @@ fn weeks(days: u32) -> u32
 }
 
 // The weekday, 1 Monday to 7 Sunday, of a date of the years 1970 to 2069, else 0. Each 365 days move it on by one.
-pub fn weekday_number(year: u16, month: u8, day: u8) -> u8
+pub fn weekday_or_zero(year: u16, month: u8, day: u8) -> u8
     ensures { λ r. ⌜ r ≡ weekdayOrZero year month day ⌝ }
 {
     if is_known_date(year, month, day) {
@@ -111,7 +111,7 @@ pub fn weekday_number(year: u16, month: u8, day: u8) -> u8
 pub fn weekday_of(year: u16, month: u8, day: u8) -> DateAnswer
     ensures { λ r. ⌜ dateAnswer r ≡ weekdayOf year month day ⌝ }
 {
-    let weekday = weekday_number(year, month, day);
+    let weekday = weekday_or_zero(year, month, day);
     if weekday == 0 {
         return DateAnswer::Refused(Error::NoSuchDate);
     }

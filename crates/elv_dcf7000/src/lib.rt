@@ -104,7 +104,7 @@ fn with_weekday(t: ClockTime) -> ClockTime
         year: t.year,
         month: t.month,
         day: t.day,
-        weekday: calendar::date::weekday_number(t.year, t.month, t.day),
+        weekday: calendar::date::weekday_or_zero(t.year, t.month, t.day),
         hour: t.hour,
         minute: t.minute,
         second: t.second,

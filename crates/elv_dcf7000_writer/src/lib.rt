@@ -3,7 +3,7 @@ use clock_time::ClockTime;
 use clock_time::WriteAnswer;
 ghost use mathlib.Core.Path.{_≡_};
 ghost use Rattle.clock_time.specs.Writing.{outcome};
-ghost use Rattle.elv_dcf7000.specs.Elv.{flagSum, lineOf, elvText, elvCarries, writeElv};
+ghost use Rattle.elv_dcf7000.specs.Elv.{flagSum, lineWith, elvText, elvCarries, writeElv};
 
 fn flag_sum(summer: bool, change: bool, unsynchronised: bool) -> u8
     ensures { λ r. ⌜ r ≡ flagSum summer change unsynchronised ⌝ }
@@ -13,7 +13,7 @@ fn flag_sum(summer: bool, change: bool, unsynchronised: bool) -> u8
 
 // The layout with the fields of `t` and the number of its flags in it.
 fn line_with(t: ClockTime, flags: u8) -> [u8; 21]
-    ensures { λ r. ⌜ r ≡ lineOf t flags ⌝ }
+    ensures { λ r. ⌜ r ≡ lineWith t flags ⌝ }
 {
     [
         (48 + t.year / 10 % 10) as u8,
@@ -40,7 +40,7 @@ fn line_with(t: ClockTime, flags: u8) -> [u8; 21]
     ]
 }
 
-fn line_of(t: ClockTime) -> [u8; 21]
+fn text_of(t: ClockTime) -> [u8; 21]
     ensures { λ r. ⌜ r ≡ elvText t ⌝ }
 {
     let flags = flag_sum(t.summer_time, t.dst_change_announced, t.unsynchronised);
@@ -52,7 +52,7 @@ fn is_carried(t: ClockTime) -> bool
     ensures { λ r. ⌜ r ≡ elvCarries t ⌝ }
 {
     let zone = clock_time::same_offset(elv_dcf7000::offset_of(t.summer_time), t.utc_offset);
-    let weekday = calendar::date::weekday_number(t.year, t.month, t.day);
+    let weekday = calendar::date::weekday_or_zero(t.year, t.month, t.day);
     zone & (weekday == t.weekday) & !t.unverified & !t.leap_second_announced & !t.alternate_antenna
 }
 
@@ -61,7 +61,7 @@ fn is_carried(t: ClockTime) -> bool
 pub fn write_elv(t: ClockTime, out: &mut [u8]) -> WriteAnswer
     ensures { λ r. ⌜ outcome r (now (out .exit)) ≡ writeElv t (now (out .entry)) ⌝ }
 {
-    let line = line_of(t);
+    let line = text_of(t);
     let readable = calendar::unix_time::is_valid(t) & is_carried(t);
     clock_time::write_bytes(readable, &line, out)
 }

@@ -16,7 +16,7 @@ use Rattle.layout.proofs.AcceptLaws.{PassesText}
 use Rattle.layout.proofs.WriteLaws.{restore-fits, digits-number, digits-year, letter-back}
 use Rattle.gps_position.proofs.PositionBackLaws.{position-back}
 use Rattle.meinberg_pzf.specs.Pzf.{pzfText}
-use Rattle.meinberg_gps.specs.Gps.{gpsLayout, offsetOf, leapMismatch, clockOf, gpsFields, lineOf, gpsText}
+use Rattle.meinberg_gps.specs.Gps.{gpsLayout, offsetOf, leapMismatch, clockOf, gpsFields, lineWith, gpsText}
 use Rattle.meinberg_gps.specs.Gps.{sameGps, gps}
 use Rattle.meinberg_gps.specs.declared.GpsTime.{GpsTime}
 use Rattle.meinberg_gps.proofs.OffsetLaws.{offset-back}
@@ -63,7 +63,7 @@ leap-back {s} fit h =
     rw (← (agree (has "L" 38 s) (eqb (number 2 20 s) 60) h)) (letter-back "L" (getD s 38 0) (fit .at 38 (lit< tt)))
 
 pub gps-back : (s : List ℕ) → PassesText gps s → gpsText (gpsFields s) ≡ s
-unfolding gpsText lineOf gpsFields gps clockOf gpsLayout ascii
+unfolding gpsText lineWith gpsFields gps clockOf gpsLayout ascii
 gps-back s r =
     let fit = r .clock .fits in
     rw (

@@ -19,7 +19,8 @@ use Rattle.gps_position.specs.Position.{angleBytes, positionText, positionCarri
 use Rattle.gps_position.proofs.PositionLaws.{position-carried}
 use Rattle.gps_position.proofs.PositionWrittenLaws.{PositionRead, position-read}
 use Rattle.meinberg_pzf.specs.Pzf.{pzfText}
-use Rattle.meinberg_gps.specs.Gps.{gpsLayout, offsetText, leapMismatch, clockOf, gpsFields, lineOf, gpsText, gps}
+use Rattle.meinberg_gps.specs.Gps.{gpsLayout, offsetText, leapMismatch, clockOf, gpsFields, lineWith, gpsText}
+use Rattle.meinberg_gps.specs.Gps.{gps}
 use Rattle.meinberg_gps.specs.Gps.{writeGps}
 use Rattle.meinberg_gps.specs.declared.GpsTime.{GpsTime}
 use Rattle.meinberg_gps.proofs.OffsetLaws.{OffsetRead, offset-read, offset-in-range}
@@ -30,7 +31,7 @@ gpsCarries g = positionCarried (g .position)
 
 text-fits : (g : GpsTime) → FitsLayout gpsLayout (gpsText g)
 unfolding
-    gpsLayout gpsText lineOf pzfText offsetText positionText angleBytes aligned padded ascii digits fitsFrom allowed
+    gpsLayout gpsText lineWith pzfText offsetText positionText angleBytes aligned padded ascii digits fitsFrom allowed
 text-fits g =
     let t = g .time in
     tested-fits gpsLayout (gpsText g) refl
@@ -48,11 +49,11 @@ text-fits g =
 -- ---- the parts are read as they were written
 module _ (g : GpsTime) (h : isValid (g .time) ≡ true) where
   offset-part : OffsetRead (g .time .«utc_offset») (gpsText g)
-  unfolding gpsText lineOf pzfText offsetText ascii digits
+  unfolding gpsText lineWith pzfText offsetText ascii digits
   offset-part = offset-read (g .time .«utc_offset») (valid (g .time) h .offset) (gpsText g) refl
 
   clock-part : clockOf (gpsText g) ≡ g .time
-  unfolding clockOf gpsText lineOf pzfText offsetText ascii digits
+  unfolding clockOf gpsText lineWith pzfText offsetText ascii digits
   clock-part =
       let t = g .time in
       let w = written t h in
@@ -75,13 +76,13 @@ module _ (g : GpsTime) (h : isValid (g .time) ≡ true) where
       }
 
   leap-part : leapMismatch (gpsText g) ≡ false
-  unfolding leapMismatch gpsText lineOf pzfText offsetText ascii digits
+  unfolding leapMismatch gpsText lineWith pzfText offsetText ascii digits
   leap-part =
       let last = eqb (g .time .second) 60 in
       rw (written (g .time) h .second, letter-read "L" refl last, beq-refl last)
 
 position-part : (g : GpsTime) → gpsCarries g ≡ true → PositionRead (g .position) (gpsText g)
-unfolding gpsText lineOf pzfText offsetText positionText angleBytes aligned padded ascii digits
+unfolding gpsText lineWith pzfText offsetText positionText angleBytes aligned padded ascii digits
 position-part g k = position-read (g .position) k (gpsText g) refl
 
 pub decides : Decides gps gpsCarries

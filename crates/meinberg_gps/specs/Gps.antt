@@ -91,8 +91,8 @@ gpsFields s = record { time = clockOf s; position = positionOf s }
 
 -- the layout with the bytes of a PZF string in it, "As PZF up to place 22" (01, Meinberg and ELV strings) and the flags
 -- from u to a as there, those of an offset, a letter for second 60 and the bytes of a position
-unfoldable pub lineOf : List ℕ → List ℕ → ℕ → List ℕ → List ℕ
-lineOf pzf offset leap position =
+unfoldable pub lineWith : List ℕ → List ℕ → ℕ → List ℕ → List ℕ
+lineWith pzf offset leap position =
     run 0 24 pzf ++ run 0 6 offset
     ++ ascii "; " ++ run 25 6 pzf ++ (leap ∷ [])
     ++ ascii "; " ++ run 0 23 position ++ ascii "m\u{3}"
@@ -101,7 +101,7 @@ lineOf pzf offset leap position =
 unfoldable pub gpsText : GpsTime → List ℕ
 gpsText g =
     let t = g .time in
-    lineOf (pzfText t) (offsetText (t .«utc_offset»)) (letter (eqb (t .second) 60) "L") (positionText (g .position))
+    lineWith (pzfText t) (offsetText (t .«utc_offset»)) (letter (eqb (t .second) 60) "L") (positionText (g .position))
 
 -- two clock times with positions are the same
 unfoldable pub sameGps : GpsTime → GpsTime → Bool

@@ -4,12 +4,12 @@ use crate::parts::OffsetText;
 use gps_position::PositionText;
 use meinberg_gps::GpsTime;
 ghost use mathlib.Core.Path.{_≡_};
-ghost use Rattle.meinberg_gps.specs.Gps.{lineOf, gpsText};
+ghost use Rattle.meinberg_gps.specs.Gps.{lineWith, gpsText};
 
 // The layout with the bytes of its parts in it: a PZF string's date, time and flags, an offset, the letter for second
 // 60 and a position.
 fn line_with(pzf: [u8; 32], offset: OffsetText, leap: u8, position: PositionText) -> [u8; 66]
-    ensures { λ r. ⌜ r ≡ lineOf pzf offset leap position ⌝ }
+    ensures { λ r. ⌜ r ≡ lineWith pzf offset leap position ⌝ }
 {
     [
         pzf[0],
@@ -86,7 +86,7 @@ pub(crate) fn text_of(g: GpsTime) -> [u8; 66]
     ensures { λ r. ⌜ r ≡ gpsText g ⌝ }
 {
     let t = g.time;
-    let pzf = meinberg_pzf_writer::line_of(t);
+    let pzf = meinberg_pzf_writer::text_of(t);
     let offset = parts::offset_text(t.utc_offset);
     let leap = layout::letter_if(t.second == 60, b'L');
     let position = gps_position::position_text(g.position);

@@ -49,8 +49,8 @@ pzfFields s =
     }
 
 -- the layout with the fields of a clock time and seven letters in it
-abbrev pub lineOf : ClockTime → ℕ → ℕ → ℕ → ℕ → ℕ → ℕ → ℕ → List ℕ
-lineOf t utc u v x y z a =
+abbrev pub lineWith : ClockTime → ℕ → ℕ → ℕ → ℕ → ℕ → ℕ → ℕ → List ℕ
+lineWith t utc u v x y z a =
     ascii "\u{2}" ++ digits 2 (t .day) ++ ascii "." ++ digits 2 (t .month) ++ ascii "." ++ digits 2 (t .year)
     ++ ascii "; " ++ digits 1 (t .weekday)
     ++ ascii "; " ++ digits 2 (t .hour) ++ ascii ":" ++ digits 2 (t .minute) ++ ascii ":" ++ digits 2 (t .second)
@@ -59,7 +59,7 @@ lineOf t utc u v x y z a =
 -- the only letters that could be read as a clock time: the offset decides t, and x is the summer flag
 unfoldable pub pzfText : ClockTime → List ℕ
 pzfText t =
-    lineOf t (letter (eqℤ (t .«utc_offset») (pos 0)) "U")
+    lineWith t (letter (eqℤ (t .«utc_offset») (pos 0)) "U")
     (letter (t .unsynchronised) "#") (letter (t .unverified) "*")
     (letter (t .«summer_time») "S") (letter (t .«dst_change_announced») "!")
     (letter (t .«leap_second_announced») "A") (letter (t .«alternate_antenna») "R")

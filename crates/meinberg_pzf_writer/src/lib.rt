@@ -3,11 +3,11 @@ use clock_time::ClockTime;
 use clock_time::WriteAnswer;
 ghost use mathlib.Core.Path.{_≡_};
 ghost use Rattle.clock_time.specs.Writing.{outcome};
-ghost use Rattle.meinberg_pzf.specs.Pzf.{lineOf, pzfText, pzfCarries, writePzf};
+ghost use Rattle.meinberg_pzf.specs.Pzf.{lineWith, pzfText, pzfCarries, writePzf};
 
 // The layout with the fields of `t` and the seven flag letters in it.
 fn line_with(t: ClockTime, utc: u8, u: u8, v: u8, x: u8, y: u8, z: u8, a: u8) -> [u8; 32]
-    ensures { λ r. ⌜ r ≡ lineOf t utc u v x y z a ⌝ }
+    ensures { λ r. ⌜ r ≡ lineWith t utc u v x y z a ⌝ }
 {
     [
         2,
@@ -49,7 +49,7 @@ fn line_with(t: ClockTime, utc: u8, u: u8, v: u8, x: u8, y: u8, z: u8, a: u8) ->
 pub type PzfBytes = [u8; 32];
 
 // The only PZF string that could be read as `t`.
-pub fn line_of(t: ClockTime) -> PzfBytes
+pub fn text_of(t: ClockTime) -> PzfBytes
     ensures { λ r. ⌜ r ≡ pzfText t ⌝ }
 {
     let utc = layout::letter_if(clock_time::same_offset(t.utc_offset, 0), b'U');
@@ -75,7 +75,7 @@ fn is_carried(t: ClockTime) -> bool
 pub fn write_pzf(t: ClockTime, out: &mut [u8]) -> WriteAnswer
     ensures { λ r. ⌜ outcome r (now (out .exit)) ≡ writePzf t (now (out .entry)) ⌝ }
 {
-    let line = line_of(t);
+    let line = text_of(t);
     let readable = calendar::unix_time::is_valid(t) & is_carried(t);
     clock_time::write_bytes(readable, &line, out)
 }

@@ -3,7 +3,7 @@ use clock_time::ClockTime;
 use clock_time::WriteAnswer;
 ghost use mathlib.Core.Path.{_≡_};
 ghost use Rattle.clock_time.specs.Writing.{outcome};
-ghost use Rattle.meinberg_standard.specs.Standard.{zoneLetter, announcedLetter, lineOf, standardText};
+ghost use Rattle.meinberg_standard.specs.Standard.{zoneLetter, announcedLetter, lineWith, standardText};
 ghost use Rattle.meinberg_standard.specs.Standard.{standardCarries, writeStandard};
 
 fn zone_letter(offset: i16, summer: bool) -> u8
@@ -29,7 +29,7 @@ fn announced_letter(change: bool, leap: bool) -> u8
 
 // The layout with the fields of `t` and the four flag letters in it.
 fn line_with(t: ClockTime, u: u8, v: u8, x: u8, y: u8) -> [u8; 32]
-    ensures { λ r. ⌜ r ≡ lineOf t u v x y ⌝ }
+    ensures { λ r. ⌜ r ≡ lineWith t u v x y ⌝ }
 {
     [
         2,
@@ -67,7 +67,7 @@ fn line_with(t: ClockTime, u: u8, v: u8, x: u8, y: u8) -> [u8; 32]
     ]
 }
 
-fn line_of(t: ClockTime) -> [u8; 32]
+fn text_of(t: ClockTime) -> [u8; 32]
     ensures { λ r. ⌜ r ≡ standardText t ⌝ }
 {
     let u = layout::letter_if(t.unsynchronised, b'#');
@@ -92,7 +92,7 @@ fn is_carried(t: ClockTime) -> bool
 pub fn write_standard(t: ClockTime, out: &mut [u8]) -> WriteAnswer
     ensures { λ r. ⌜ outcome r (now (out .exit)) ≡ writeStandard t (now (out .entry)) ⌝ }
 {
-    let line = line_of(t);
+    let line = text_of(t);
     let readable = calendar::unix_time::is_valid(t) & is_carried(t);
     clock_time::write_bytes(readable, &line, out)
 }

@@ -14,7 +14,7 @@ returns : tie.Need-returns
 unfolding withWeekday
 returns c =
     let day = c .before in
-    rw (toZ-ofZ (offset-fits (day .before))) (simp (day .weekday-number .ensures))
+    rw (toZ-ofZ (offset-fits (day .before))) (simp (day .weekday-or-zero .ensures))
 
 pub with-weekday-spec : {M : Type 1} → statement M
 with-weekday-spec =

@@ -18,7 +18,7 @@ returns c =
     let zone = same .before .before in
     let said : SFits w16 (zone .offset-of .result) = search sfits-of in
     let same-is = rw (toZ-ofZ (offset-fits (zone .before)), toZ-ofZ said) at (same .same-offset .ensures) in
-    simp (day .weekday-number .ensures, same-is, zone .offset-of .ensures)
+    simp (day .weekday-or-zero .ensures, same-is, zone .offset-of .ensures)
 
 pub is-carried-spec : {M : Type 1} → statement M
 is-carried-spec =

@@ -15,7 +15,7 @@ returns c =
     let line = carried .before .before in
     w .write-bytes .ensures
     ∙ clock-writes decides _ (carried .before .is-valid .ensures) (carried .is-carried .ensures)
-    (line .line-of .ensures) _
+    (line .text-of .ensures) _
 
 pub write-standard-spec : {M : Type 1} → statement M
 write-standard-spec =

@@ -2,12 +2,12 @@
 use mathlib.Core.Path.{refl}
 use lib.Dec.{lit<}
 use Rattle.layout.specs.Ascii.{ascii}
-use Rattle.meinberg_gps.specs.Gps.{lineOf}
+use Rattle.meinberg_gps.specs.Gps.{lineWith}
 use Rattle.meinberg_gps_writer.proofs.text.line_with.Statement.{statement}
 use Rattle.meinberg_gps_writer.proofs.text.line_with.Tie as tie
 
 returns : tie.Need-returns
-unfolding lineOf ascii
+unfolding lineWith ascii
 returns c = refl
 
 pub line-with-spec : {M : Type 1} → statement M

@@ -20,7 +20,7 @@ returns c =
     let f = o .before .before in
     let offset = rw (toZ-ofZ (offset-fits (f .before .before))) at (o .offset-text .ensures) in
     c .line-with .ensures
-    ∙ simp (f .line-of .ensures, offset, l .letter-if .ensures, p .position-text .ensures)
+    ∙ simp (f .text-of .ensures, offset, l .letter-if .ensures, p .position-text .ensures)
 
 pub text-of-spec : {M : Type 1} → statement M
 text-of-spec =

@@ -1,4 +1,4 @@
--- `calendar::date::weekday_number` meets its contract. Assumes nothing.
+-- `calendar::date::weekday_or_zero` meets its contract. Assumes nothing.
 use borrow.Author.Needs.{needs}
 use native.Mathlib.Omega.{arith}
 use Prim.Native.Nat.{_+_, _-_, _<_}
@@ -6,8 +6,8 @@ use mathlib.Core.Path.{_≡_, sym, _∙_}
 use mathlib.Core.Bool.{true}
 use Rattle.calendar.specs.Date.{knownDate, weekdayOrZero}
 use Rattle.calendar.proofs.DateLaws.{known, rest-small, weekday-sum}
-use Rattle.calendar.proofs.date.weekday_number.Statement.{statement}
-use Rattle.calendar.proofs.date.weekday_number.Tie as tie
+use Rattle.calendar.proofs.date.weekday_or_zero.Statement.{statement}
+use Rattle.calendar.proofs.date.weekday_or_zero.Tie as tie
 
 dated : (c : tie.Then1)
     → knownDate (c .before .before .args .year) (c .before .before .args .month) (c .before .before .args .day) ≡ true
@@ -34,8 +34,8 @@ returns-2 : tie.Need-returns-2
 unfolding weekdayOrZero
 returns-2 c = simp (← (c .before .is-known-date .ensures), c .if1 .left)
 
-pub weekday-number-spec : {M : Type 1} → statement M
-weekday-number-spec =
+pub weekday-or-zero-spec : {M : Type 1} → statement M
+weekday-or-zero-spec =
     tie.close
     (tie.spec
     (λ c κs. search needs)

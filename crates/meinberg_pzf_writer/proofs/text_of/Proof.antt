@@ -1,4 +1,4 @@
--- `meinberg_pzf_writer::line_of` meets its contract. Assumes nothing.
+-- `meinberg_pzf_writer::text_of` meets its contract. Assumes nothing.
 use borrow.Author.Needs.{needs}
 use mathlib.Core.Path.{_∙_}
 use mir.Syntax.{w16}
@@ -6,8 +6,8 @@ use mir.Val.{SFits}
 use mir.Facts.{toZ-ofZ}
 use borrow.Author.Needs.{sfits-of}
 use Rattle.meinberg_pzf.specs.Pzf.{pzfText}
-use Rattle.meinberg_pzf_writer.proofs.line_of.Statement.{statement}
-use Rattle.meinberg_pzf_writer.proofs.line_of.Tie as tie
+use Rattle.meinberg_pzf_writer.proofs.text_of.Statement.{statement}
+use Rattle.meinberg_pzf_writer.proofs.text_of.Tie as tie
 
 offset-fits : (c : tie.Start) → SFits w16 (c .args .t .«utc_offset»)
 offset-fits c = search sfits-of
@@ -36,8 +36,8 @@ returns c =
       utc,
     )
 
-pub line-of-spec : {M : Type 1} → statement M
-line-of-spec =
+pub text-of-spec : {M : Type 1} → statement M
+text-of-spec =
     tie.close
     (tie.spec
     (λ c κs. search needs)

@@ -43,11 +43,6 @@ def answer_of(rule, *arguments):
         return f"refused {refused.number}"
 
 
-def number_at(sheet, place):
-    """The sheet is the start of 100,001 numbers, and those after it hold 7."""
-    return sheet[place] if place < len(sheet) else 7 if place < recording_rules.MARKS else 0
-
-
 # What each command answers: the line, and the answer.
 
 
@@ -63,15 +58,12 @@ def fill(count, tape):
 
 
 def corrected(line, tape, sheet, place, mark):
-    """The numbers at the place and at the first gap after it, or else the end; then the sums of the tape, of the sheet, and
-    of the sheet made anew."""
+    """How many numbers changed, then the sums of the tape, of the sheet, and of the sheet made anew."""
     marks = list(tape.marks)
-    numbers = [answer_of(recording_rules.correct, marks, sheet, place, mark)]
-    gap = recording_rules.next_gap(marks, place)
-    end = max(place + 1, len(marks))
-    numbers += [number_at(sheet, place), number_at(sheet, end if gap is None else gap), total(marks), total(sheet)]
+    answer = answer_of(recording_rules.correct, marks, sheet, place, mark)
+    sums = f"{total(marks)} {total(sheet)}"
     answer_of(recording_rules.fill, marks, sheet)
-    return line, " ".join(map(str, (*numbers, total(sheet))))
+    return line, f"{answer} {sums} {total(sheet)}"
 
 
 def correct(place, mark, tape):

@@ -42,24 +42,6 @@ pub const MEND: u64 = 0x6d656e64;
 
 pub const UNFIT: u64 = 0x756e666974;
 
-pub const DATES: u8 = 0;
-
-pub const NUMERALS: u8 = 1;
-
-pub const STRINGS: u8 = 2;
-
-pub const RECORDINGS: u8 = 3;
-
-// Which module answers a command.
-pub fn group_of(word: u64) -> u8 {
-    match word {
-        DIGITS | NUMBER => NUMERALS,
-        READ | KIND | WRITE | UNIX | RUN => STRINGS,
-        AT | FILL | CORRECT | MEND | UNFIT => RECORDINGS,
-        _ => DATES,
-    }
-}
-
 // The types of a command's numbers, a digit for each: 1 is a u8, 2 a u16, 3 an i16, 4 a u64. No number is of type 5,
 // which any other word has.
 fn types_of(word: u64) -> u64 {
@@ -82,11 +64,6 @@ fn types_of(word: u64) -> u64 {
 // True where there is such a command with numbers such as these; `write` takes any.
 pub fn is_known(word: u64, v: &Numbers) -> bool {
     (word == WRITE) | numbers::are_of(v, types_of(word))
-}
-
-// True for a command that writes into a lent buffer, of as much room as its last number says.
-pub fn writes(word: u64) -> bool {
-    (word == WRITE) | (word == NUMBER)
 }
 
 // What the text of a command shows in place of a zero byte: that of marks, which are kind 4, has a digit for each.

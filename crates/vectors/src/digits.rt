@@ -1,15 +1,13 @@
 // The commands on runs of digits: `digits` reads one, `number` writes one into a lent buffer.
-use crate::commands;
 use crate::numbers;
 use crate::numbers::Numbers;
-use crate::text;
 use crate::text::Text;
 use clock_time::WriteAnswer;
 use decimal::DigitsRead;
 
-// A byte that is no digit is refused with 3, and 100 more for each place before it.
-fn number_read(answer: DigitsRead) -> u64 {
-    match answer {
+// The number that the digits s are. A byte that is no digit is refused with 3, and 100 more for each place before it.
+pub fn read(s: &[u8]) -> u64 {
+    match decimal::read_digits(s) {
         DigitsRead::Number(number) => number,
         DigitsRead::NotDigit(place) => numbers::REFUSED + 3 + 100 * (place % 256) as u64,
         DigitsRead::TooLong => numbers::REFUSED + 1,
@@ -23,18 +21,15 @@ fn count_written(answer: WriteAnswer) -> u64 {
     }
 }
 
-// Writes into the first `room` bytes of the space, or into all where they are fewer.
-fn write(number: u64, count: usize, space: &mut [u8], room: usize) -> WriteAnswer {
+// Writes into the first `room` bytes of the space; none where it has fewer.
+fn write_in(number: u64, count: usize, space: &mut [u8], room: usize) -> u64 {
     if space.len() < room {
-        return decimal::write_digits(number, count, space);
+        return 0;
     }
-    decimal::write_digits(number, count, &mut space[0..room])
+    count_written(decimal::write_digits(number, count, &mut space[0..room]))
 }
 
-// The answer to a command of this module.
-pub fn answer(word: u64, v: &Numbers, space: &mut Text, length: usize) -> u64 {
-    if word == commands::DIGITS {
-        return number_read(decimal::read_digits(text::start(space, length)));
-    }
-    count_written(write(v[1], v[2] as usize, space, v[3] as usize))
+// Writes the first number with as many digits as the second says, in as much room as the third says.
+pub fn write(v: &Numbers, space: &mut Text) -> u64 {
+    write_in(v[1], v[2] as usize, space, v[3] as usize)
 }

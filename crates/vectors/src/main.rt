@@ -21,13 +21,28 @@ type Table = [u8; 1048576];
 // So many bytes are worth a write. The buffer has as much room again, for one more line and its answer.
 const ENOUGH: usize = 32768;
 
+// Adds the answer to a command that writes into no lent buffer, and whose text is s.
+fn answer_text(word: u64, v: &Numbers, s: &[u8], a: &mut Numbers) {
+    match word {
+        commands::READ => strings::add_read(numbers::u8_at(v, 1), s, a),
+        commands::KIND => strings::add_kind(s, a),
+        commands::RUN => numbers::add(a, dcf77::run_number(s) as u64),
+        commands::AT => numbers::add(a, recordings::outcome_at(v, s)),
+        commands::FILL | commands::CORRECT | commands::MEND | commands::UNFIT => {
+            recordings::answer(word, v, s, a)
+        }
+        _ => numbers::add(a, dates::answer(word, v)),
+    }
+}
+
 // Adds the answer to a command, whose text is the first bytes of the space.
 fn answer(word: u64, v: &Numbers, space: &mut Text, length: usize, a: &mut Numbers) {
-    match commands::group_of(word) {
-        commands::DATES => numbers::add(a, dates::answer(word, v)),
-        commands::NUMERALS => numbers::add(a, digits::answer(word, v, space, length)),
-        commands::STRINGS => strings::answer(word, v, space, length, a),
-        _ => recordings::answer(word, v, text::start(space, length), a),
+    match word {
+        commands::DIGITS => numbers::add(a, digits::read(text::start(space, length))),
+        commands::NUMBER => numbers::add(a, digits::write(v, space)),
+        commands::WRITE => numbers::add(a, strings::write(v, space)),
+        commands::UNIX => numbers::add(a, strings::unix_time(v)),
+        _ => answer_text(word, v, text::start(space, length), a),
     }
 }
 
@@ -39,7 +54,7 @@ fn put_command(word: u64, v: &Numbers, s: &[u8], out: &mut Buffer, at: usize) ->
     let length = text::decode(s, base, &mut space);
     answer(word, v, &mut space, length, &mut a);
     let n = output::put_numbers(out, at, &a);
-    if commands::writes(word) {
+    if (word == commands::WRITE) | (word == commands::NUMBER) {
         return output::put_text(out, n, &space, numbers::last(v), base);
     }
     n

@@ -47,16 +47,16 @@ fn sum_of_marks(m: &[u8]) -> u64 {
     sum
 }
 
-fn outcome_at(m: &[u8], place: usize) -> u64 {
+fn number_left(m: &[u8], place: usize) -> u64 {
     let mut number = 0;
     let refusal = radio_clock_outcome_at(m, place, &mut number);
     numbers::answered(refusal, number as u64)
 }
 
-// Fills the first `count` outcomes, or all where they are fewer.
+// Fills the first `count` outcomes; 20 where they are fewer.
 fn fill_first(m: &[u8], o: &mut [u32], count: usize) -> u8 {
     if o.len() < count {
-        return radio_clock_fill_outcomes(m, o);
+        return 20;
     }
     radio_clock_fill_outcomes(m, &mut o[0..count])
 }
@@ -74,13 +74,13 @@ fn correct_first(
     place: usize,
     mark: u8,
 ) -> u64 {
-    let mut changed = 0;
     if m.len() < length {
         return 0;
     }
     if o.len() < count {
         return 0;
     }
+    let mut changed = 0;
     let refusal = radio_clock_correct_mark(
         &mut m[0..length],
         &mut o[0..count],
@@ -96,49 +96,21 @@ fn correct(v: &Numbers, m: &mut Recording, o: &mut Outcomes) -> u64 {
     correct_first(m, v[1] as usize, o, v[2] as usize, v[3] as usize, mark)
 }
 
-// Adds the number at a place and that at the first gap after it, then the sums of the marks and of the outcomes.
-fn add_left(v: &Numbers, m: &[u8], o: &Outcomes, a: &mut Numbers) {
-    let place = v[3] as usize;
-    let gap = text::place_of(m, std::num::wrapping_add_usize(place, 1), 2);
-    numbers::add(a, number_at(o, place) as u64);
-    numbers::add(a, number_at(o, gap) as u64);
-    numbers::add(a, sum_of_marks(m));
-    numbers::add(a, sum(o, v[2] as usize));
-}
-
-// Adds what a correction answers, what it leaves, and the sum of the outcomes once they are made anew.
+// Adds what a correction answers, then the sums of the marks, of the outcomes, and of these once they are made anew.
 fn add_corrected(v: &Numbers, m: &mut Recording, o: &mut Outcomes, a: &mut Numbers) {
+    let count = v[2] as usize;
     numbers::add(a, correct(v, m, o));
-    add_left(v, text::first(m, v[1] as usize), o, a);
+    numbers::add(a, sum_of_marks(text::first(m, v[1] as usize)));
+    numbers::add(a, sum(o, count));
     fill(v, m, o);
-    numbers::add(a, sum(o, v[2] as usize));
+    numbers::add(a, sum(o, count));
 }
 
 // Puts a number at a place, and nothing past the end.
-fn put_outcome(o: &mut Outcomes, at: usize, number: u64) {
+fn put_number(o: &mut Outcomes, at: usize, number: u64) {
     if at < 100001 {
         o[at] = (number % 4294967296) as u32;
     }
-}
-
-// Adds the answer to a command for these marks and outcomes.
-fn answer_with(word: u64, v: &Numbers, m: &mut Recording, o: &mut Outcomes, a: &mut Numbers) {
-    if word == commands::AT {
-        numbers::add(a, outcome_at(text::first(m, v[1] as usize), v[2] as usize));
-        return;
-    }
-    if word != commands::UNFIT {
-        let refusal = fill(v, m, o);
-        if word == commands::FILL {
-            numbers::add(a, numbers::answered(refusal, v[2]));
-            numbers::add(a, sum(o, v[2] as usize));
-            return;
-        }
-    }
-    if word == commands::MEND {
-        put_outcome(o, v[5] as usize, v[6]);
-    }
-    add_corrected(v, m, o, a);
 }
 
 // Puts the marks of a text or, where it is empty, of the day.
@@ -150,10 +122,33 @@ fn load(s: &[u8], m: &mut Recording) {
     }
 }
 
-// Adds the answer to a command of this module.
+fn outcome_in(v: &Numbers, m: &Recording) -> u64 {
+    number_left(text::first(m, v[1] as usize), v[2] as usize)
+}
+
+pub fn outcome_at(v: &Numbers, s: &[u8]) -> u64 {
+    let mut m = [3u8; 100001];
+    load(s, &mut m);
+    outcome_in(v, &m)
+}
+
+// Makes the sheet, unless it is to hold 7 everywhere, and adds the answer to a command.
 pub fn answer(word: u64, v: &Numbers, s: &[u8], a: &mut Numbers) {
     let mut m = [3u8; 100001];
     let mut o = [7u32; 100001];
     load(s, &mut m);
-    answer_with(word, v, &mut m, &mut o, a);
+    if word == commands::UNFIT {
+        add_corrected(v, &mut m, &mut o, a);
+        return;
+    }
+    let refusal = fill(v, &m, &mut o);
+    if word == commands::FILL {
+        numbers::add(a, numbers::answered(refusal, v[2]));
+        numbers::add(a, sum(&o, v[2] as usize));
+        return;
+    }
+    if word == commands::MEND {
+        put_number(&mut o, v[5] as usize, v[6]);
+    }
+    add_corrected(v, &mut m, &mut o, a);
 }

@@ -1,7 +1,6 @@
 // The commands on readings, as the C face has them: a kind is its number there, and 4 for a DCF77 minute, whose text has
 // a digit for each mark. `read` reads a text, and adds 1 where it is written back the same; `kind` tells the kind first;
-// `write` writes numbers into a lent buffer; `unix` gives the Unix time of numbers, and `run` the number of a run of marks.
-use crate::commands;
+// `write` writes numbers into a lent buffer; `unix` gives the Unix time of numbers.
 use crate::numbers;
 use crate::numbers::Numbers;
 use crate::text;
@@ -38,7 +37,7 @@ fn read(kind: u8, s: &[u8], fields: &mut [i32]) -> u8 {
     radio_clock_read(kind, s, fields)
 }
 
-fn write(kind: u8, fields: &[i32], space: &mut [u8], count: &mut usize) -> u8 {
+fn write_kind(kind: u8, fields: &[i32], space: &mut [u8], count: &mut usize) -> u8 {
     if kind == MINUTE {
         return radio_clock_write_minute(fields, space, count);
     }
@@ -49,12 +48,12 @@ fn write(kind: u8, fields: &[i32], space: &mut [u8], count: &mut usize) -> u8 {
 fn are_written_as(kind: u8, fields: &[i32], s: &[u8]) -> bool {
     let mut space = [0u8; 66];
     let mut count = 0;
-    let refusal = write(kind, fields, &mut space, &mut count);
+    let refusal = write_kind(kind, fields, &mut space, &mut count);
     (refusal == 0) & check::same(text::first(&space, count), s)
 }
 
 // Adds the numbers that s is read as, and whether they are written back as s.
-fn add_read(kind: u8, s: &[u8], a: &mut Numbers) {
+pub fn add_read(kind: u8, s: &[u8], a: &mut Numbers) {
     let mut space = [0i32; 17];
     let refusal = read(kind, s, &mut space);
     if refusal != 0 {
@@ -67,7 +66,7 @@ fn add_read(kind: u8, s: &[u8], a: &mut Numbers) {
 }
 
 // Adds the kind of s, and what it is read as.
-fn add_kind(s: &[u8], a: &mut Numbers) {
+pub fn add_kind(s: &[u8], a: &mut Numbers) {
     let mut kind = 0;
     let refusal = radio_clock_kind(s, &mut kind);
     numbers::add(a, numbers::answered(refusal, kind as u64));
@@ -76,45 +75,28 @@ fn add_kind(s: &[u8], a: &mut Numbers) {
     }
 }
 
-// Writes into the first `room` bytes of the space, or into all where they are fewer.
-fn write_in(kind: u8, fields: &[i32], space: &mut [u8], room: usize, count: &mut usize) -> u8 {
+// Writes into the first `room` bytes of the space; none where it has fewer.
+fn write_in(kind: u8, fields: &[i32], space: &mut [u8], room: usize) -> u64 {
     if space.len() < room {
-        return write(kind, fields, space, count);
+        return 0;
     }
-    write(kind, fields, &mut space[0..room], count)
-}
-
-// What the writer of a kind answers for all numbers but the kind, the first, and the room, the last.
-fn written(v: &Numbers, space: &mut Text) -> u64 {
-    let mut fields = [0i32; 17];
-    numbers::put_fields(v, 2, &mut fields);
-    let given = first(&fields, std::num::wrapping_sub_u64(v[0], 2) as usize);
     let mut count = 0;
-    let refusal = write_in(
-        numbers::u8_at(v, 1),
-        given,
-        space,
-        numbers::last(v),
-        &mut count,
-    );
+    let refusal = write_kind(kind, fields, &mut space[0..room], &mut count);
     numbers::answered(refusal, count as u64)
 }
 
-fn unix_time(v: &Numbers) -> u64 {
+// Writes all numbers but the kind, the first, and the room, the last.
+pub fn write(v: &Numbers, space: &mut Text) -> u64 {
+    let mut fields = [0i32; 17];
+    numbers::put_fields(v, 2, &mut fields);
+    let given = first(&fields, std::num::wrapping_sub_u64(v[0], 2) as usize);
+    write_in(numbers::u8_at(v, 1), given, space, numbers::last(v))
+}
+
+pub fn unix_time(v: &Numbers) -> u64 {
     let mut fields = [0i32; 14];
     numbers::put_fields(v, 1, &mut fields);
     let mut time = 0;
     let refusal = radio_clock_unix_time(&fields, &mut time);
     numbers::answered(refusal, numbers::bits(time))
-}
-
-// Adds the answer to a command of this module.
-pub fn answer(word: u64, v: &Numbers, space: &mut Text, length: usize, a: &mut Numbers) {
-    match word {
-        commands::WRITE => numbers::add(a, written(v, space)),
-        commands::UNIX => numbers::add(a, unix_time(v)),
-        commands::RUN => numbers::add(a, dcf77::run_number(text::start(space, length)) as u64),
-        commands::KIND => add_kind(text::start(space, length), a),
-        _ => add_read(numbers::u8_at(v, 1), text::start(space, length), a),
-    }
 }

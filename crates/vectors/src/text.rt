@@ -49,16 +49,12 @@ pub fn byte_at(s: &[u8], i: usize) -> u8 {
     0
 }
 
-fn append(value: u64, b: u8) -> u64 {
-    value % 72057594037927936 * 256 + b as u64
-}
-
 // The last eight bytes as one number.
 pub fn pack(s: &[u8]) -> u64 {
     let mut value = 0;
     let mut i = 0;
     while i < s.len() {
-        value = append(value, s[i]);
+        value = value % 72057594037927936 * 256 + byte_at(s, i) as u64;
         i += 1;
     }
     value

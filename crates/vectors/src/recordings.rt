@@ -19,19 +19,14 @@ fn add(sum: u64, number: u32) -> u64 {
     (sum % 4294967296 * 16777619 + number as u64) % 4294967296
 }
 
-// The number at a place; 0 where there is no such place.
-fn number_at(o: &Outcomes, i: usize) -> u32 {
-    if i < 100001 {
-        return o[i];
-    }
-    0
-}
-
 fn sum(o: &Outcomes, count: usize) -> u64 {
     let mut sum = 0;
     let mut i = 0;
     while i < count {
-        sum = add(sum, number_at(o, i));
+        if 100001 <= i {
+            return sum;
+        }
+        sum = add(sum, o[i]);
         i += 1;
     }
     sum
@@ -45,12 +40,6 @@ fn sum_of_marks(m: &[u8]) -> u64 {
         i += 1;
     }
     sum
-}
-
-fn number_left(m: &[u8], place: usize) -> u64 {
-    let mut number = 0;
-    let refusal = radio_clock_outcome_at(m, place, &mut number);
-    numbers::answered(refusal, number as u64)
 }
 
 // Fills the first `count` outcomes; 20 where they are fewer.
@@ -123,7 +112,10 @@ fn load(s: &[u8], m: &mut Recording) {
 }
 
 fn outcome_in(v: &Numbers, m: &Recording) -> u64 {
-    number_left(text::first(m, v[1] as usize), v[2] as usize)
+    let mut number = 0;
+    let marks = text::first(m, v[1] as usize);
+    let refusal = radio_clock_outcome_at(marks, v[2] as usize, &mut number);
+    numbers::answered(refusal, number as u64)
 }
 
 pub fn outcome_at(v: &Numbers, s: &[u8]) -> u64 {

@@ -62,6 +62,7 @@ fn put_minute(m: &mut Recording, at: usize, i: u32) -> usize {
     gap
 }
 
+// Puts the recording in place of unsure marks.
 pub fn make(m: &mut Recording) {
     let mut at = 0;
     let mut i = 0;

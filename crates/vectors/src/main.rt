@@ -44,17 +44,16 @@ fn put_command(word: u64, v: &Numbers, s: &[u8]) {
 // Puts the answer to a command that writes, and the buffer that it was lent, with as much room as the last number says.
 fn put_written(word: u64, v: &Numbers) {
     let mut space = [b'.'; 256];
-    let mut count = 0;
-    if word == commands::NUMBER {
-        count = digits::write(v, &mut space);
+    let count = if word == commands::NUMBER {
+        digits::write(v, &mut space)
     } else {
-        count = strings::write(v, &mut space);
-    }
+        strings::write(v, &mut space)
+    };
     output::put_number(count);
     output::put_text(&space, numbers::last(v), commands::base_of(word, v));
 }
 
-// Puts the answer to a line, a question mark where it is no command.
+// Puts the answer to a line, a question mark where it is no command; `write` takes any numbers.
 fn put_answer(line: &[u8]) {
     let colon = text::place_of(line, 0, b':');
     let head = text::first(line, colon);
@@ -62,14 +61,13 @@ fn put_answer(line: &[u8]) {
     let word = text::pack(text::first(head, blank));
     let mut v = [0u64; 24];
     numbers::read_all(head, blank, &mut v);
-    if word == commands::WRITE {
+    let known = numbers::are_of(&v, commands::types_of(word));
+    if (word == commands::WRITE) | (known & (word == commands::NUMBER)) {
         put_written(word, &v);
-    } else if !numbers::are_of(&v, commands::types_of(word)) {
-        output::put(b" ?");
-    } else if word == commands::NUMBER {
-        put_written(word, &v);
-    } else {
+    } else if known {
         put_command(word, &v, text::after(line, colon));
+    } else {
+        output::put(b" ?");
     }
 }
 

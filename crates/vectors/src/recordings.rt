@@ -19,6 +19,7 @@ fn add(sum: u64, number: u32) -> u64 {
     (sum % 4294967296 * 16777619 + number as u64) % 4294967296
 }
 
+// The sum of the first `count` outcomes.
 fn sum(o: &Outcomes, count: usize) -> u64 {
     let mut sum = 0;
     let mut i = 0;
@@ -50,6 +51,7 @@ fn fill_first(m: &[u8], o: &mut [u32], count: usize) -> u8 {
     radio_clock_fill_outcomes(m, &mut o[0..count])
 }
 
+// Makes the sheet, of as many numbers as the command says.
 fn fill(v: &Numbers, m: &Recording, o: &mut Outcomes) -> u8 {
     fill_first(text::first(m, v[1] as usize), o, v[2] as usize)
 }
@@ -88,7 +90,8 @@ fn correct(v: &Numbers, m: &mut Recording, o: &mut Outcomes) -> u64 {
 // Adds what a correction answers, then the sums of the marks, of the outcomes, and of these once they are made anew.
 fn add_corrected(v: &Numbers, m: &mut Recording, o: &mut Outcomes, a: &mut Numbers) {
     let count = v[2] as usize;
-    numbers::add(a, correct(v, m, o));
+    let answer = correct(v, m, o);
+    numbers::add(a, answer);
     numbers::add(a, sum_of_marks(text::first(m, v[1] as usize)));
     numbers::add(a, sum(o, count));
     fill(v, m, o);
@@ -118,6 +121,7 @@ fn outcome_in(v: &Numbers, m: &Recording) -> u64 {
     numbers::answered(refusal, number as u64)
 }
 
+// The number that the rule gives a place.
 pub fn outcome_at(v: &Numbers, s: &[u8]) -> u64 {
     let mut m = [3u8; 100001];
     load(s, &mut m);

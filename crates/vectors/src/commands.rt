@@ -1,5 +1,4 @@
 // The commands. A word is one number, of which its bytes are the digits: `at` is 0x6174.
-use crate::numbers;
 use crate::numbers::Numbers;
 
 pub const ERROR: u64 = 0x6572726f72;
@@ -44,7 +43,7 @@ pub const UNFIT: u64 = 0x756e666974;
 
 // The types of a command's numbers, a digit for each: 1 is a u8, 2 a u16, 3 an i16, 4 a u64. No number is of type 5,
 // which any other word has.
-fn types_of(word: u64) -> u64 {
+pub fn types_of(word: u64) -> u64 {
     match word {
         KIND | DIGITS | RUN => 0,
         ERROR | YEAR | READ => 1,
@@ -59,11 +58,6 @@ fn types_of(word: u64) -> u64 {
         UNIX => 21111113,
         _ => 5,
     }
-}
-
-// True where there is such a command with numbers such as these; `write` takes any.
-pub fn is_known(word: u64, v: &Numbers) -> bool {
-    (word == WRITE) | numbers::are_of(v, types_of(word))
 }
 
 // What the text of a command shows in place of a zero byte: that of marks, which are kind 4, has a digit for each.

@@ -47,15 +47,6 @@ fn write_at(m: &mut [u8], at: usize, fields: &[i32]) -> usize {
     count
 }
 
-// Puts a gap, and returns the place after it; nothing past the end.
-fn put_gap(m: &mut Recording, at: usize) -> usize {
-    if at < 100001 {
-        m[at] = 2;
-        return at + 1;
-    }
-    at
-}
-
 // Puts a minute and a gap, and returns the place after them; nothing where the minute has no room.
 fn put_minute(m: &mut Recording, at: usize, i: u32) -> usize {
     let fields = minute_at(i);
@@ -63,9 +54,15 @@ fn put_minute(m: &mut Recording, at: usize, i: u32) -> usize {
     if count == 0 {
         return at;
     }
-    put_gap(m, std::num::wrapping_add_usize(at, count))
+    let gap = std::num::wrapping_add_usize(at, count);
+    if gap < 100001 {
+        m[gap] = 2;
+        return gap + 1;
+    }
+    gap
 }
 
+// Puts the recording in place of unsure marks.
 pub fn make(m: &mut Recording) {
     let mut at = 0;
     let mut i = 0;

@@ -1,5 +1,6 @@
 // Lists of numbers: those of a command, and those of its answer. A number is 64 bits, below zero the two's complement;
 // from 10 ^ 19 on it is a refusal. Place 0 has how many they are.
+use crate::text;
 use decimal::DigitsRead;
 
 pub type Numbers = [u64; 24];
@@ -49,7 +50,7 @@ pub fn add(v: &mut Numbers, value: u64) {
 pub fn read_all(s: &[u8], start: usize, v: &mut Numbers) {
     let mut at = start;
     while at < s.len() {
-        let end = crate::text::place_of(s, at + 1, b' ');
+        let end = text::place_of(s, at + 1, b' ');
         add(v, number(&s[at + 1..end]));
         at = end;
     }
@@ -63,13 +64,14 @@ fn at(v: &Numbers, i: u64) -> u64 {
     0
 }
 
+// The last number, or 0 where there is none.
 pub fn last(v: &Numbers) -> usize {
     at(v, v[0]) as usize
 }
 
-// True for a number of this type: 1 is a u8, 2 a u16, 3 an i16, 4 a u64, and there is no other.
-fn is_of(kind: u64, value: u64) -> bool {
-    match kind {
+// True for a number of the type of this digit: 1 is a u8, 2 a u16, 3 an i16, 4 a u64, and there is no other.
+fn is_of(digit: u64, value: u64) -> bool {
+    match digit {
         1 => value < 256,
         2 => value < 65536,
         3 => (value < 32768) | (18446744073709518848 <= value),
@@ -78,10 +80,10 @@ fn is_of(kind: u64, value: u64) -> bool {
     }
 }
 
-// True where the numbers are of the types that the digits of `kinds` name, the last of the last.
-pub fn are_of(v: &Numbers, kinds: u64) -> bool {
+// True where there is a number for each digit of `types`, and it is of that type.
+pub fn are_of(v: &Numbers, types: u64) -> bool {
     let mut all = true;
-    let mut rest = kinds;
+    let mut rest = types;
     let mut i = v[0];
     while 0 < i {
         all = all & is_of(rest % 10, at(v, i));
@@ -117,7 +119,7 @@ fn i32_at(v: &Numbers, i: u64) -> i32 {
     !((4294967295 - low) as i32)
 }
 
-// Puts the numbers from a place on.
+// Puts the numbers from a place on, as a reading has them.
 pub fn put_fields(v: &Numbers, start: u64, fields: &mut [i32]) {
     let mut i = 0;
     while i < fields.len() {
@@ -138,6 +140,7 @@ fn wide(value: i32) -> i64 {
     value as i64
 }
 
+// Adds the numbers of a reading.
 pub fn add_fields(v: &mut Numbers, fields: &[i32]) {
     let mut i = 0;
     while i < fields.len() {

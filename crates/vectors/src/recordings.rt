@@ -19,19 +19,15 @@ fn add(sum: u64, number: u32) -> u64 {
     (sum % 4294967296 * 16777619 + number as u64) % 4294967296
 }
 
-// The number at a place; 0 where there is no such place.
-fn number_at(o: &Outcomes, i: usize) -> u32 {
-    if i < 100001 {
-        return o[i];
-    }
-    0
-}
-
+// The sum of the first `count` outcomes.
 fn sum(o: &Outcomes, count: usize) -> u64 {
     let mut sum = 0;
     let mut i = 0;
     while i < count {
-        sum = add(sum, number_at(o, i));
+        if 100001 <= i {
+            return sum;
+        }
+        sum = add(sum, o[i]);
         i += 1;
     }
     sum
@@ -47,12 +43,6 @@ fn sum_of_marks(m: &[u8]) -> u64 {
     sum
 }
 
-fn number_left(m: &[u8], place: usize) -> u64 {
-    let mut number = 0;
-    let refusal = radio_clock_outcome_at(m, place, &mut number);
-    numbers::answered(refusal, number as u64)
-}
-
 // Fills the first `count` outcomes; 20 where they are fewer.
 fn fill_first(m: &[u8], o: &mut [u32], count: usize) -> u8 {
     if o.len() < count {
@@ -61,6 +51,7 @@ fn fill_first(m: &[u8], o: &mut [u32], count: usize) -> u8 {
     radio_clock_fill_outcomes(m, &mut o[0..count])
 }
 
+// Makes the sheet, of as many numbers as the command says.
 fn fill(v: &Numbers, m: &Recording, o: &mut Outcomes) -> u8 {
     fill_first(text::first(m, v[1] as usize), o, v[2] as usize)
 }
@@ -99,7 +90,8 @@ fn correct(v: &Numbers, m: &mut Recording, o: &mut Outcomes) -> u64 {
 // Adds what a correction answers, then the sums of the marks, of the outcomes, and of these once they are made anew.
 fn add_corrected(v: &Numbers, m: &mut Recording, o: &mut Outcomes, a: &mut Numbers) {
     let count = v[2] as usize;
-    numbers::add(a, correct(v, m, o));
+    let answer = correct(v, m, o);
+    numbers::add(a, answer);
     numbers::add(a, sum_of_marks(text::first(m, v[1] as usize)));
     numbers::add(a, sum(o, count));
     fill(v, m, o);
@@ -123,9 +115,13 @@ fn load(s: &[u8], m: &mut Recording) {
 }
 
 fn outcome_in(v: &Numbers, m: &Recording) -> u64 {
-    number_left(text::first(m, v[1] as usize), v[2] as usize)
+    let mut number = 0;
+    let marks = text::first(m, v[1] as usize);
+    let refusal = radio_clock_outcome_at(marks, v[2] as usize, &mut number);
+    numbers::answered(refusal, number as u64)
 }
 
+// The number that the rule gives a place.
 pub fn outcome_at(v: &Numbers, s: &[u8]) -> u64 {
     let mut m = [3u8; 100001];
     load(s, &mut m);

@@ -23,6 +23,7 @@ fn count_of(kind: u8) -> usize {
     }
 }
 
+// The first n numbers, or all where they are fewer.
 fn first(fields: &[i32], n: usize) -> &[i32] {
     if fields.len() < n {
         return fields;
@@ -93,6 +94,7 @@ pub fn write(v: &Numbers, space: &mut Text) -> u64 {
     write_in(numbers::u8_at(v, 1), given, space, numbers::last(v))
 }
 
+// The Unix time of the numbers.
 pub fn unix_time(v: &Numbers) -> u64 {
     let mut fields = [0i32; 14];
     numbers::put_fields(v, 1, &mut fields);

@@ -28,6 +28,7 @@ pub fn first(s: &[u8], n: usize) -> &[u8] {
     &s[0..n]
 }
 
+// The first n bytes of a text.
 pub fn start(space: &Text, n: usize) -> &[u8] {
     first(space, n)
 }
@@ -42,6 +43,7 @@ pub fn after(s: &[u8], at: usize) -> &[u8] {
     &s[0..0]
 }
 
+// The byte at a place; 0 where there is no such place.
 pub fn byte_at(s: &[u8], i: usize) -> u8 {
     if i < s.len() {
         return s[i];

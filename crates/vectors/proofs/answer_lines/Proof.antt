@@ -6,10 +6,10 @@ use Rattle.vectors.proofs.answer_lines.Statement.{statement}
 use Rattle.vectors.proofs.answer_lines.Tie as tie
 
 abbrev Inv-loop : tie.InvT-loop
-Inv-loop s out₀ n₀ at₀ out n at = Unit {0}
+Inv-loop s at₀ at = Unit {0}
 
 abbrev μ-loop : tie.MeasureT-loop
-μ-loop s out₀ n₀ at₀ out n at = length s - at
+μ-loop s at₀ at = length s - at
 
 pub answer-lines-spec : {M : Type 1} → statement M
 answer-lines-spec =
@@ -17,17 +17,13 @@ answer-lines-spec =
     (tie.spec
     Inv-loop
     μ-loop
-    (λ c κs. search needs)
     (λ c. search needs)
     (λ c κs. search needs)
     (λ c. search needs)
     (λ c. search needs)
     (λ c. search needs)
     (λ c κs. search needs)
-    (λ c κs. search needs)
     (λ c. search needs)
     (λ c. search needs)
     (λ c. search needs)
-    (λ c. search needs)
-    (λ c κs. search needs)
     (λ c. search needs))

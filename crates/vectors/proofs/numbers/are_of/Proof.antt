@@ -4,10 +4,10 @@ use Rattle.vectors.proofs.numbers.are_of.Statement.{statement}
 use Rattle.vectors.proofs.numbers.are_of.Tie as tie
 
 abbrev Inv-loop : tie.InvT-loop
-Inv-loop v kinds all₀ rest₀ i₀ all rest i = Unit {0}
+Inv-loop v types all₀ rest₀ i₀ all rest i = Unit {0}
 
 abbrev μ-loop : tie.MeasureT-loop
-μ-loop v kinds all₀ rest₀ i₀ all rest i = i
+μ-loop v types all₀ rest₀ i₀ all rest i = i
 
 pub are-of-spec : {M : Type 1} → statement M
 are-of-spec =

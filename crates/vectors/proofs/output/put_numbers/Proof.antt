@@ -5,10 +5,10 @@ use Rattle.vectors.proofs.output.put_numbers.Statement.{statement}
 use Rattle.vectors.proofs.output.put_numbers.Tie as tie
 
 abbrev Inv-loop : tie.InvT-loop
-Inv-loop out₀ at a n₀ i₀ out n i = Unit {0}
+Inv-loop a i₀ i = Unit {0}
 
 abbrev μ-loop : tie.MeasureT-loop
-μ-loop out₀ at a n₀ i₀ out n i = 24 - i
+μ-loop a i₀ i = 24 - i
 
 pub put-numbers-spec : {M : Type 1} → statement M
 put-numbers-spec =
@@ -19,7 +19,6 @@ put-numbers-spec =
     (λ c. search needs)
     (λ c. search needs)
     (λ c. search needs)
-    (λ c κs. search needs)
     (λ c. search needs)
     (λ c. search needs)
     (λ c κs. search needs)

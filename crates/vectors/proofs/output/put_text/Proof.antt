@@ -5,10 +5,10 @@ use Rattle.vectors.proofs.output.put_text.Statement.{statement}
 use Rattle.vectors.proofs.output.put_text.Tie as tie
 
 abbrev Inv-loop : tie.InvT-loop
-Inv-loop out₀ at s length base n₀ i₀ out n i = Unit {0}
+Inv-loop s length base i₀ t6 i = Unit {0}
 
 abbrev μ-loop : tie.MeasureT-loop
-μ-loop out₀ at s length base n₀ i₀ out n i = 256 - i
+μ-loop s length base i₀ t6 i = 256 - i
 
 pub put-text-spec : {M : Type 1} → statement M
 put-text-spec =
@@ -19,12 +19,12 @@ put-text-spec =
     (λ c. search needs)
     (λ c κs. search needs)
     (λ c. search needs)
-    (λ c κs. search needs)
-    (λ c. search needs)
     (λ c. search needs)
     (λ c κs. search needs)
     (λ c κs. search needs)
     (λ c. search needs)
     (λ c. search needs)
     (λ c. search needs)
+    (λ c. search needs)
+    (λ c κs. search needs)
     (λ c. search needs))

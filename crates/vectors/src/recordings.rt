@@ -1,7 +1,7 @@
 // The commands on recordings. The numbers start with the length of the recording and that of its sheet; the text has a
 // digit for each mark and, where it is empty, the marks are those of the module `day`. `at` has a place as its second
-// number, and gives the number there; `fill` makes the sheet; `correct` puts at a place a mark where the sheet is right,
-// `mend` where a number was put at a place of it, and `unfit` where it holds 7 everywhere.
+// number, and gives the number there; `fill` makes the sheet; `correct` puts at a place a mark where the sheet is
+// right, `mend` where a number was put at a place of it, and `unfit` where it holds 7 everywhere.
 use crate::commands;
 use crate::day;
 use crate::day::Recording;

@@ -1,4 +1,3 @@
 -- Laws of the definitions.
-pub mod DateLaws
 pub mod SignedLaws
 pub mod ValidLaws

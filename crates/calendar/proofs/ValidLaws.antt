@@ -8,10 +8,10 @@ use lib.IntN.{pos}
 use borrow.Author.Tests.{leb-true, ltb-true, eqb-true, le-leb}
 use Rattle.clock_time.specs.declared.ClockTime.{ClockTime}
 use Rattle.clock_time.proofs.Tests.{both}
-use Rattle.calendar.specs.Date.{dateExists, fullYear, knownDate}
+use Rattle.gregorian.specs.Date.{dateExists, fullYear, knownDate}
 use Rattle.calendar.specs.TimeOfDay.{timeExists, utcMinute}
 use Rattle.calendar.specs.UnixTime.{offsetInRange, isValid}
-use Rattle.calendar.proofs.DateLaws.{Known, known, known-exists}
+use Rattle.gregorian.proofs.DateLaws.{Known, known, known-exists}
 
 sixty-most : (second : ℕ) (b : Bool) → (ltb second 60 || eqb second 60 && b) ≡ true → second ≤ 60
 sixty-most second b h = go (ltb second 60) refl h

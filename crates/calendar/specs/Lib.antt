@@ -1,4 +1,4 @@
 -- The definitions that the contracts cite.
-pub mod Date
+pub mod DateAnswer
 pub mod TimeOfDay
 pub mod UnixTime

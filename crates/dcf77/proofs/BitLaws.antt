@@ -6,7 +6,7 @@ use native.Mathlib.Omega.{arith}
 use mathlib.Core.Path.{_≡_, refl, ap, _∙_}
 use mathlib.Core.List.{List, [], _∷_, _++_}
 use lib.ListN.{length, getD}
-use Rattle.calendar.specs.Date.{sum, fullYear}
+use Rattle.gregorian.specs.Date.{sum, fullYear}
 use Rattle.dcf77.specs.Marks.{binary, twoDigits, longs, bits}
 use Rattle.dcf77.specs.Minute.{withParity}
 use Rattle.dcf77.proofs.MarkLaws.{low-part, high-part}

@@ -7,7 +7,7 @@ use lib.IntN.{ℤ, pos, negsuc}
 use borrow.Author.Tests.{not-true, eqb-true, leb-true, ltb-true}
 use Rattle.clock_time.specs.Same.{eqℤ}
 use Rattle.clock_time.proofs.Tests.{both}
-use Rattle.calendar.specs.Date.{knownDate}
+use Rattle.gregorian.specs.Date.{knownDate}
 use Rattle.dcf77.specs.Writable.{fieldsFit, isWritable}
 use Rattle.dcf77.specs.declared.MinuteTime.{MinuteTime}
 

@@ -7,8 +7,8 @@ use mathlib.Core.List.{List}
 use lib.IntN.{pos}
 use Rattle.clock_time.specs.Errors.{accepted}
 use Rattle.clock_time.specs.Same.{eqℤ}
-use Rattle.calendar.specs.Date.{knownDate}
-use Rattle.calendar.proofs.DateLaws.{known-exists}
+use Rattle.gregorian.specs.Date.{knownDate}
+use Rattle.gregorian.proofs.DateLaws.{known-exists}
 use Rattle.dcf77.specs.Marks.{long, twoDigits}
 use Rattle.dcf77.specs.Minute.{announced, minuteFields, readMinute}
 use Rattle.dcf77.specs.declared.MinuteTime.{MinuteTime}

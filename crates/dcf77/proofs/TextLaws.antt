@@ -11,9 +11,9 @@ use lib.IntN.{pos}
 use lib.ListN.{length, getD}
 use borrow.Author.Tests.{not-false, eqb-true, lt-ltb}
 use Rattle.clock_time.proofs.Tests.{both}
-use Rattle.calendar.specs.Date.{sum, dateExists, knownDate, fullYear}
+use Rattle.gregorian.specs.Date.{sum, dateExists, knownDate, fullYear}
 use Rattle.calendar.specs.TimeOfDay.{timeExists}
-use Rattle.calendar.proofs.DateLaws.{Known, known}
+use Rattle.gregorian.proofs.DateLaws.{Known, known}
 use Rattle.dcf77.specs.Marks.{long, allSure, binary, twoDigits, bits}
 use Rattle.dcf77.specs.Minute.{announced, minuteFields, mark, firstMarks, minuteText}
 use Rattle.dcf77.specs.Accepts.{AcceptsMinute}

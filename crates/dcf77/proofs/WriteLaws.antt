@@ -12,7 +12,7 @@ use Rattle.clock_time.specs.Same.{eqℤ}
 use Rattle.clock_time.specs.Writing.{isAccepted, readsBack}
 use Rattle.clock_time.proofs.Tests.{both}
 use Rattle.calendar.specs.TimeOfDay.{timeExists}
-use Rattle.calendar.proofs.DateLaws.{known-exists}
+use Rattle.gregorian.proofs.DateLaws.{known-exists}
 use Rattle.dcf77.specs.Marks.{long, binary, twoDigits}
 use Rattle.dcf77.specs.Minute.{announced, minuteFields, readMinute, minuteText, sameMinute}
 use Rattle.dcf77.specs.Accepts.{AcceptsMinute}

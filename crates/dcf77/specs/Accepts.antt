@@ -5,7 +5,7 @@ use mathlib.Core.Logic.{_⊎_}
 use mathlib.Core.Bool.{true}
 use mathlib.Core.List.{List}
 use lib.ListN.{length, getD}
-use Rattle.calendar.specs.Date.{dateExists}
+use Rattle.gregorian.specs.Date.{dateExists}
 use Rattle.calendar.specs.TimeOfDay.{timeExists}
 use Rattle.dcf77.specs.Marks.{binary, longs}
 use Rattle.dcf77.specs.Minute.{announced}

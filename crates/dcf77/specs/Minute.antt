@@ -9,7 +9,7 @@ use Rattle.clock_time.specs.Errors.{Answer, accepted, refused, errorNumber, Che
 use Rattle.clock_time.specs.Same.{eqℤ, sameTime}
 use Rattle.clock_time.specs.Writing.{Outcome, writeBack}
 use Rattle.clock_time.specs.declared.ClockTime.{ClockTime}
-use Rattle.calendar.specs.Date.{dateExists, fullYear, sum, daysSinceEpoch}
+use Rattle.gregorian.specs.Date.{dateExists, fullYear, sum, daysSinceEpoch}
 use Rattle.calendar.specs.TimeOfDay.{timeExists}
 use Rattle.dcf77.specs.Marks.{long, short, allSure, binary, twoDigits, isOdd, bits}
 use Rattle.dcf77.specs.declared.MinuteTime.{MinuteTime}

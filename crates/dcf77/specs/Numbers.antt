@@ -7,7 +7,7 @@ use lib.Count.{ones}
 use lib.Dec.{leb, ltb, eqb}
 use lib.ListN.{length, getD}
 use Rattle.clock_time.specs.Errors.{Check, given}
-use Rattle.calendar.specs.Date.{dateExists}
+use Rattle.gregorian.specs.Date.{dateExists}
 use Rattle.dcf77.specs.Marks.{long, short, allSure, binary}
 
 -- a run that is long enough, of sure marks

@@ -7,7 +7,7 @@ use mathlib.Core.List.{List}
 use lib.Dec.{leb, ltb, eqb}
 use lib.IntN.{pos}
 use Rattle.clock_time.specs.Same.{eqℤ}
-use Rattle.calendar.specs.Date.{knownDate}
+use Rattle.gregorian.specs.Date.{knownDate}
 use Rattle.dcf77.specs.Marks.{bits}
 use Rattle.dcf77.specs.declared.MinuteTime.{MinuteTime}
 

@@ -3,7 +3,7 @@ use calendar::date::DateAnswer;
 ghost use mathlib.Core.Path.{_≡_};
 ghost use mathlib.Core.Bool.{true};
 ghost use Prim.Native.Nat.{_+_, _*_, _<_};
-ghost use Rattle.calendar.specs.Date.{knownDate, daysSinceEpoch};
+ghost use Rattle.gregorian.specs.Date.{knownDate, daysSinceEpoch};
 ghost use Rattle.dcf77.specs.Minute.{mark};
 
 // Days from 1 January 1970 to a date that exists.

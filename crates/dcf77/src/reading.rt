@@ -35,7 +35,7 @@ fn announced_time(m: &[u8], minute: u32, hour: u32, date: u32) -> ClockTime
 {
     let summer = m[17] == 1;
     ClockTime {
-        year: calendar::date::full_year((date / 16384 % 16 + 10 * (date / 262144 % 16)) as u8),
+        year: gregorian::full_year((date / 16384 % 16 + 10 * (date / 262144 % 16)) as u8),
         month: (date / 512 % 16 + 10 * (date / 8192 % 2)) as u8,
         day: (date % 16 + 10 * (date / 16 % 4)) as u8,
         weekday: (date / 64 % 8) as u8,
@@ -144,7 +144,7 @@ pub(crate) fn date_error(weekday: u8, year: u16, month: u8, day: u8) -> u8
     if !((1 <= weekday) & (weekday <= 7)) {
         return 7;
     }
-    if !calendar::date::date_exists(year, month, day) {
+    if !gregorian::date_exists(year, month, day) {
         return 5;
     }
     0

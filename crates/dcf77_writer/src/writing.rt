@@ -130,7 +130,7 @@ fn is_writable(a: MinuteTime) -> bool
 {
     let t = a.time;
     let fits = fields_fit(a);
-    let known = calendar::date::is_known_date(t.year, t.month, t.day);
+    let known = gregorian::is_known_date(t.year, t.month, t.day);
     let zone = is_zone_offset(t.utc_offset, t.summer_time);
     fits & known & zone
 }

@@ -16,7 +16,7 @@ use Rattle.clock_time.specs.Exit.{exit}
 use Rattle.clock_time.specs.Faithful.{Faithful}
 use Rattle.clock_time.specs.Writing.{writing, writeBack}
 use Rattle.clock_time.specs.declared.ClockTime.{ClockTime}
-use Rattle.calendar.specs.Date.{knownDate, daysSinceEpoch, dayNumber, weekdayNumber, weekdayOf}
+use Rattle.gregorian.specs.Date.{knownDate, daysSinceEpoch, dayNumber, weekdayNumber, weekdayOf}
 use Rattle.calendar.specs.UnixTime.{isValid, instantOf, unixTime}
 use Rattle.decimal.specs.Decimal.{value, digits, firstNonDigit, readDigits, writeDigits}
 use Rattle.layout.specs.Text.{clockChecks, textChecks, readText, writeText}

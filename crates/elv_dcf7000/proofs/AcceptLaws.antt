@@ -7,7 +7,7 @@ use mathlib.Core.List.{List}
 use lib.Dec.{leb}
 use borrow.Author.Tests.{leb-true, le-ltb, ltb-false}
 use Rattle.clock_time.proofs.Tests.{both}
-use Rattle.calendar.proofs.DateLaws.{known-exists}
+use Rattle.gregorian.proofs.DateLaws.{known-exists}
 use Rattle.layout.specs.Layout.{number}
 use Rattle.layout.proofs.AcceptLaws.{PassesText}
 use Rattle.elv_dcf7000.specs.Elv.{elvFlags, elvFlagFault, sentFields, withWeekday, elvFields, elv}

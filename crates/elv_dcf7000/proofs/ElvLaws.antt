@@ -15,11 +15,11 @@ use Rattle.clock_time.specs.Same.{eqℤ, sameFields, sameTime}
 use Rattle.clock_time.specs.declared.ClockTime.{ClockTime}
 use Rattle.clock_time.proofs.SameLaws.{eqℤ-refl, eqb-refl, beq-refl, beq-true, sameTime-true}
 use Rattle.clock_time.proofs.Tests.{both, below-at}
-use Rattle.calendar.specs.Date.{dateExists, fullYear, knownDate, weekdayOf, weekdayNumber, weekdayOrZero}
+use Rattle.gregorian.specs.Date.{dateExists, fullYear, knownDate, weekdayOf, weekdayNumber, weekdayOrZero}
 use Rattle.calendar.specs.TimeOfDay.{timeExists}
 use Rattle.calendar.specs.UnixTime.{isValid}
 use Rattle.calendar.proofs.ValidLaws.{zone-in-range}
-use Rattle.calendar.proofs.DateLaws.{known-exists}
+use Rattle.gregorian.proofs.DateLaws.{known-exists}
 use Rattle.decimal.specs.Decimal.{digits, value, valueFrom}
 use Rattle.decimal.proofs.DecimalLaws.{value-digits, digit-range}
 use Rattle.layout.specs.Ascii.{ascii}

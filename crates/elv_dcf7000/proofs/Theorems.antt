@@ -7,7 +7,7 @@ use Rattle.clock_time.specs.Errors.{accepted}
 use Rattle.clock_time.specs.Faithful.{Faithful}
 use Rattle.clock_time.specs.declared.ClockTime.{ClockTime}
 use Rattle.clock_time.proofs.SameLaws.{sameTime-refl, sameTime-true}
-use Rattle.calendar.specs.Date.{weekdayOf}
+use Rattle.gregorian.specs.Date.{weekdayOf}
 use Rattle.calendar.specs.UnixTime.{isValid}
 use Rattle.layout.proofs.DecideLaws.{clock-valid}
 use Rattle.layout.proofs.Theorems as text

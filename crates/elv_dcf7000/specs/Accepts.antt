@@ -3,7 +3,7 @@ use Prim.Native.Nat.{ℕ, _≤_}
 use mathlib.Core.Path.{_≡_}
 use mathlib.Core.Bool.{true}
 use mathlib.Core.List.{List}
-use Rattle.calendar.specs.Date.{dateExists}
+use Rattle.gregorian.specs.Date.{dateExists}
 use Rattle.calendar.specs.TimeOfDay.{timeExists}
 use Rattle.layout.specs.Layout.{FitsLayout}
 use Rattle.elv_dcf7000.specs.Elv.{elvLayout, elvFlags, elvFields}

@@ -79,7 +79,7 @@ fn sent_fields(s: &[u8]) -> ClockTime
     let flags = s[19] % 16;
     let summer = flags % 2 == 1;
     ClockTime {
-        year: calendar::date::full_year(date.first),
+        year: gregorian::full_year(date.first),
         month: date.second,
         day: date.third,
         weekday: 1,

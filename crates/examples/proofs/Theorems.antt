@@ -2,8 +2,8 @@
 use mathlib.Core.Path.{refl}
 use mathlib.Core.List.{Option·toList}
 use Rattle.clock_time.specs.Same.{eqℤ}
-use Rattle.calendar.specs.Date.{isLeapYear, monthLengths, daysInMonth, dateExists, fullYear, knownDate, daysOfYears}
-use Rattle.calendar.specs.Date.{daysBeforeMonth, daysSinceEpoch}
+use Rattle.gregorian.specs.Date.{isLeapYear, monthLengths, daysInMonth, dateExists, fullYear, knownDate, daysOfYears}
+use Rattle.gregorian.specs.Date.{daysBeforeMonth, daysSinceEpoch}
 use Rattle.calendar.specs.TimeOfDay.{modulo, utcMinute, timeExists}
 use Rattle.calendar.specs.UnixTime.{offsetInRange, isValid, instantOf, unixTime}
 use Rattle.decimal.specs.Decimal.{isDigit, valueFrom}

@@ -14,7 +14,7 @@ use Rattle.clock_time.specs.declared.ClockTime.{ClockTime}
 use Rattle.clock_time.proofs.BackLaws.{decided}
 use Rattle.clock_time.proofs.SameLaws.{sameTime-refl, sameTime-true}
 use Rattle.clock_time.proofs.Tests.{both}
-use Rattle.calendar.specs.Date.{fullYear}
+use Rattle.gregorian.specs.Date.{fullYear}
 use Rattle.calendar.specs.UnixTime.{offsetInRange, isValid}
 use Rattle.calendar.proofs.ValidLaws.{valid, checked-valid, year-back}
 use Rattle.decimal.specs.Decimal.{isDigit, digits, value}

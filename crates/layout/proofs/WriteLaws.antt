@@ -13,7 +13,7 @@ use lib.Seq.{drop-cons}
 use borrow.Author.Tests.{eq-eqb, eqb-true}
 use Rattle.decimal.specs.Decimal.{digits}
 use Rattle.decimal.proofs.DecimalLaws.{digits-value}
-use Rattle.calendar.specs.Date.{fullYear}
+use Rattle.gregorian.specs.Date.{fullYear}
 use Rattle.layout.specs.Layout.{allowed, FitsLayout, run, number}
 use Rattle.layout.specs.Text.{letter}
 use Rattle.layout.proofs.LayoutLaws.{allDigits, run-digits, length-run, number-below}

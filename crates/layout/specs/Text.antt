@@ -9,7 +9,7 @@ use Rattle.clock_time.specs.Errors.{Answer, accepted, refused, errorNumber, Che
 use Rattle.clock_time.specs.Same.{sameTime}
 use Rattle.clock_time.specs.Writing.{Outcome, writeBack}
 use Rattle.clock_time.specs.declared.ClockTime.{ClockTime}
-use Rattle.calendar.specs.Date.{dateExists}
+use Rattle.gregorian.specs.Date.{dateExists}
 use Rattle.calendar.specs.TimeOfDay.{timeExists}
 use Rattle.layout.specs.Layout.{found}
 use Rattle.layout.specs.declared.ReadAnswer.{ReadAnswer}

@@ -93,7 +93,7 @@ pub fn layout_error(layout: &[u32], s: &[u8]) -> Error
 pub fn check_clock(t: ClockTime, mismatch: bool) -> ReadAnswer
     ensures { λ r. ⌜ readAnswer r ≡ checked (clockChecks t mismatch) t ⌝ }
 {
-    if !calendar::date::date_exists(t.year, t.month, t.day) {
+    if !gregorian::date_exists(t.year, t.month, t.day) {
         return ReadAnswer::Refused(Error::NoSuchDate);
     }
     if !calendar::time_of_day::time_exists(t.hour, t.minute, t.second, t.utc_offset) | mismatch {

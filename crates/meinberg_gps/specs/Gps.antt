@@ -11,7 +11,7 @@ use Rattle.clock_time.specs.Same.{sameTime, samePosition}
 use Rattle.clock_time.specs.Writing.{Outcome}
 use Rattle.clock_time.specs.declared.ClockTime.{ClockTime}
 use Rattle.clock_time.specs.declared.Position.{Position}
-use Rattle.calendar.specs.Date.{fullYear}
+use Rattle.gregorian.specs.Date.{fullYear}
 use Rattle.decimal.specs.Decimal.{digits}
 use Rattle.layout.specs.Ascii.{ascii}
 use Rattle.layout.specs.Layout.{digit, free, flag, places, run, number, has}

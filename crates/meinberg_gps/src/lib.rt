@@ -32,7 +32,7 @@ fn clock(s: &[u8]) -> ClockTime
     let date = byte_words::numbers_at(s, 1);
     let time = byte_words::numbers_at(s, 14);
     ClockTime {
-        year: calendar::date::full_year(date.third),
+        year: gregorian::full_year(date.third),
         month: date.second,
         day: date.first,
         weekday: s[11] % 16,

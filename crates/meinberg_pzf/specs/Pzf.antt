@@ -7,7 +7,7 @@ use Rattle.clock_time.specs.Errors.{Answer}
 use Rattle.clock_time.specs.Same.{eqℤ}
 use Rattle.clock_time.specs.Writing.{Outcome}
 use Rattle.clock_time.specs.declared.ClockTime.{ClockTime}
-use Rattle.calendar.specs.Date.{fullYear}
+use Rattle.gregorian.specs.Date.{fullYear}
 use Rattle.decimal.specs.Decimal.{digits}
 use Rattle.layout.specs.Ascii.{ascii}
 use Rattle.layout.specs.Layout.{digit, flag, places, number, has}

@@ -102,7 +102,7 @@ fn fields(s: &[u8]) -> ClockTime
     let utc = s[24] == b'U';
     let summer = s[27] == b'S';
     ClockTime {
-        year: calendar::date::full_year(date.third),
+        year: gregorian::full_year(date.third),
         month: date.second,
         day: date.first,
         weekday: s[11] % 16,

@@ -103,7 +103,7 @@ fn fields(s: &[u8]) -> ClockTime
     let zone = s[29];
     let announced = s[30];
     ClockTime {
-        year: calendar::date::full_year(date.third),
+        year: gregorian::full_year(date.third),
         month: date.second,
         day: date.first,
         weekday: s[14] % 16,

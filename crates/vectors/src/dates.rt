@@ -47,9 +47,9 @@ fn number_of(answer: DateAnswer) -> u64 {
 // The answers to commands on a date.
 fn on_date(word: u64, year: u16, month: u8, day: u8) -> u64 {
     match word {
-        commands::LEAP => date::is_leap_year(year) as u64,
-        commands::MONTH => date::days_in_month(year, month) as u64,
-        commands::DATE => date::date_exists(year, month, day) as u64,
+        commands::LEAP => gregorian::is_leap_year(year) as u64,
+        commands::MONTH => gregorian::days_in_month(year, month) as u64,
+        commands::DATE => gregorian::date_exists(year, month, day) as u64,
         commands::DAY => number_of(date::day_number(year, month, day)),
         _ => number_of(date::weekday_of(year, month, day)),
     }
@@ -62,7 +62,7 @@ pub fn answer(word: u64, v: &Numbers) -> u64 {
     let third = numbers::u8_at(v, 3);
     match word {
         commands::ERROR => clock_time::error_number(error_at(first)) as u64,
-        commands::YEAR => date::full_year(first) as u64,
+        commands::YEAR => gregorian::full_year(first) as u64,
         commands::TIME => {
             time_of_day::time_exists(first, second, third, numbers::i16_at(v, 4)) as u64
         }

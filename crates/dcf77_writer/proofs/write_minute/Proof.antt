@@ -4,7 +4,7 @@ use native.Mathlib.Omega.{arith}
 use mathlib.Core.Path.{sym, ap, _∙_}
 use lib.ListN.{length}
 use lib.Seq.{length-take-le}
-use Rattle.calendar.proofs.DateLaws.{byte-small}
+use Rattle.gregorian.proofs.DateLaws.{byte-small}
 use Rattle.dcf77.proofs.LineLaws.{length-line, take-line}
 use Rattle.dcf77_writer.proofs.write_minute.Statement.{statement}
 use Rattle.dcf77_writer.proofs.write_minute.Tie as tie

@@ -1,7 +1,7 @@
 -- `elv_dcf7000_writer::flag_sum` meets its contract. Assumes nothing.
 use borrow.Author.Needs.{needs}
 use native.Mathlib.Omega.{arith}
-use Rattle.calendar.proofs.DateLaws.{byte-small}
+use Rattle.gregorian.proofs.DateLaws.{byte-small}
 use Rattle.elv_dcf7000.proofs.ElvLaws.{flagSum-bytes}
 use Rattle.elv_dcf7000_writer.proofs.flag_sum.Statement.{statement}
 use Rattle.elv_dcf7000_writer.proofs.flag_sum.Tie as tie

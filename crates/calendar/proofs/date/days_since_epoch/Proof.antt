@@ -1,7 +1,7 @@
 -- `calendar::date::days_since_epoch` meets its contract. Assumes nothing.
 use borrow.Author.Needs.{needs}
 use native.Mathlib.Omega.{arith}
-use Rattle.calendar.proofs.DateLaws.{known, days-small}
+use Rattle.gregorian.proofs.DateLaws.{known, days-small}
 use Rattle.calendar.proofs.date.days_since_epoch.Statement.{statement}
 use Rattle.calendar.proofs.date.days_since_epoch.Tie as tie
 

@@ -4,8 +4,8 @@ use native.Mathlib.Omega.{arith}
 use Prim.Native.Nat.{_+_, _-_, _<_}
 use mathlib.Core.Path.{_≡_, sym, _∙_}
 use mathlib.Core.Bool.{true}
-use Rattle.calendar.specs.Date.{knownDate, weekdayOrZero}
-use Rattle.calendar.proofs.DateLaws.{known, rest-small, weekday-sum}
+use Rattle.gregorian.specs.Date.{knownDate, weekdayOrZero}
+use Rattle.gregorian.proofs.DateLaws.{known, rest-small, weekday-sum}
 use Rattle.calendar.proofs.date.weekday_or_zero.Statement.{statement}
 use Rattle.calendar.proofs.date.weekday_or_zero.Tie as tie
 

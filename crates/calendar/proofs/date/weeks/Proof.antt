@@ -1,6 +1,6 @@
 -- `calendar::date::weeks` meets its contract. Assumes nothing.
 use borrow.Author.Needs.{needs}
-use Rattle.calendar.proofs.DateLaws.{weeks-of}
+use Rattle.gregorian.proofs.DateLaws.{weeks-of}
 use Rattle.calendar.proofs.date.weeks.Statement.{statement}
 use Rattle.calendar.proofs.date.weeks.Tie as tie
 

@@ -9,9 +9,9 @@ use mir.Facts.{toZ-ofZ}
 use borrow.Author.Needs.{sfits-of}
 use Rattle.clock_time.proofs.Tests.{both}
 use Rattle.clock_time.specs.declared.ClockTime.{ClockTime}
-use Rattle.calendar.specs.Date.{knownDate}
+use Rattle.gregorian.specs.Date.{knownDate}
 use Rattle.calendar.specs.UnixTime.{isValid, instantOf}
-use Rattle.calendar.proofs.DateLaws.{days-small}
+use Rattle.gregorian.proofs.DateLaws.{days-small}
 use Rattle.calendar.proofs.unix_time.instant_of.Statement.{statement}
 use Rattle.calendar.proofs.unix_time.instant_of.Tie as tie
 

@@ -3,7 +3,7 @@ use borrow.Author.Needs.{needs}
 use Prim.Native.Nat.{ℕ}
 use native.Mathlib.Omega.{arith}
 use mathlib.Core.Path.{_≡_}
-use Rattle.calendar.proofs.DateLaws.{day-known}
+use Rattle.gregorian.proofs.DateLaws.{day-known}
 use Rattle.dcf77.proofs.numbering.days_to.Statement.{statement}
 use Rattle.dcf77.proofs.numbering.days_to.Tie as tie
 

@@ -1,7 +1,7 @@
 -- `dcf77::numbering::minute_number` meets its contract. Assumes nothing.
 use borrow.Author.Needs.{needs}
 use native.Mathlib.Omega.{arith}
-use Rattle.calendar.proofs.DateLaws.{days-small}
+use Rattle.gregorian.proofs.DateLaws.{days-small}
 use Rattle.dcf77.proofs.numbering.minute_number.Statement.{statement}
 use Rattle.dcf77.proofs.numbering.minute_number.Tie as tie
 

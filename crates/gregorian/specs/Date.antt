@@ -4,9 +4,7 @@ use mathlib.Core.Bool.{Bool, cond, not, _&&_, _||_}
 use mathlib.Core.List.{List, [], _∷_}
 use lib.Dec.{leb, eqb}
 use lib.ListN.{getD, take}
-use Rattle.clock_time.specs.Errors.{Answer, accepted, refused, errorNumber, given, checked}
-use Rattle.calendar.specs.declared.date.DateAnswer.{DateAnswer}
-use Rattle.calendar.specs.declared.date.DateAnswer.the-variants.{Number, Refused}
+use Rattle.clock_time.specs.Errors.{Answer, given, checked}
 
 -- "Dates are Gregorian." (01, The reading)
 unfoldable pub isLeapYear : ℕ → Bool
@@ -70,8 +68,3 @@ weekdayOf year month day = checked (given 5 (not (knownDate year month day)) ∷
 -- 0, which is no weekday, where the date is not one of 1970 to 2069
 unfoldable pub weekdayOrZero : ℕ → ℕ → ℕ → ℕ
 weekdayOrZero year month day = cond (knownDate year month day) (weekdayNumber year month day) 0
-
--- the function's answer: a number, or a refusal with the error's number
-abbrev pub dateAnswer : DateAnswer → Answer ℕ
-dateAnswer (Number n) = accepted n
-dateAnswer (Refused e) = refused (errorNumber e)

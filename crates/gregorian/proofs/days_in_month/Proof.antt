@@ -1,12 +1,12 @@
--- `calendar::date::days_in_month` meets its contract: the lengths of the months by their number. Assumes nothing.
+-- `gregorian::days_in_month` meets its contract: the lengths of the months by their number. Assumes nothing.
 use borrow.Author.Needs.{needs}
 use native.Mathlib.Omega.{arith}
 use mathlib.Core.Path.{sym}
 use lib.Dec.{eqb}
-use Rattle.calendar.specs.Date.{isLeapYear, daysInMonth}
-use Rattle.calendar.proofs.DateLaws.{byte-small, lacking-small, no-month, some-month, month-length}
-use Rattle.calendar.proofs.date.days_in_month.Statement.{statement}
-use Rattle.calendar.proofs.date.days_in_month.Tie as tie
+use Rattle.gregorian.specs.Date.{isLeapYear, daysInMonth}
+use Rattle.gregorian.proofs.DateLaws.{byte-small, lacking-small, no-month, some-month, month-length}
+use Rattle.gregorian.proofs.days_in_month.Statement.{statement}
+use Rattle.gregorian.proofs.days_in_month.Tie as tie
 
 returns : tie.Need-returns
 returns c = sym (no-month (c .before .args .year) (c .before .args .month) (c .if1 .taken))

@@ -25,9 +25,8 @@ use Rattle.time_string.specs.declared.Kind.{Kind}
 use Rattle.time_string.specs.declared.Kind.the-variants.{Standard, Pzf, Gps, Elv}
 use Rattle.dcf77.specs.Minute.{minuteChecks, minuteFields, minuteText, sameMinute, readMinute, writeMinute}
 use Rattle.dcf77.specs.Minute.{outcomeNumber, runNumber}
-use Rattle.dcf77.specs.declared.MinuteTime.{MinuteTime}
 use Rattle.recording.specs.Gaps.{isGap, gapBefore}
-use Rattle.recording.specs.Rule.{runBetween, gapNumber, ruleBy}
+use Rattle.recording.specs.Rule.{gapNumber, ruleBy}
 use Rattle.recording.specs.Recording.{rule}
 use Rattle.clock_time.specs.Called.{leaving}
 use Rattle.clock_numbers.specs.Numbers.{timeNumbers, gpsNumbers, minuteNumbers, putNumbers, putAnswer}
@@ -41,6 +40,7 @@ use Rattle.fields_writer.specs.Writers.{writeMinuteFrom}
 use Rattle.radio_clock.specs.Minutes.{readMinuteInto}
 use Rattle.demands.specs.Ordered.{numbersOf, Ordered}
 use Rattle.demands.specs.Lines.{textOrder, minuteOrder, linesAs, kindLines, writerLines, textLines, gapLines}
+use Rattle.demands.specs.Lines.{gapMinute, gapAnswer}
 use Rattle.demands.specs.Lines.{unknownKind, namedKind, places, roomFor, readLines, writeLinesAs, writeLines}
 use Rattle.demands.specs.Lines.{readMinuteLines, writeMinuteLines, unixTimeLines}
 use Rattle.demands.proofs.OrderLaws.{ordered, checked-map, then-checked, then-leaves}
@@ -230,16 +230,6 @@ write-minute-lines z d =
     numbered-lines (fitsAll minuteRanges z) (minuteFrom z) (readsBack readMinute minuteText sameMinute) minuteText d
 
 -- ---- a recording
--- what the marks since the nearest earlier gap would say
-abbrev pub gapMinute : List ℕ → ℕ → Option ℕ → MinuteTime
-gapMinute marks place none = minuteFields []
-gapMinute marks place (some earlier) = minuteFields (runBetween marks earlier place)
-
--- the answer at a gap: its lines in their order, and then the minute
-abbrev pub gapAnswer : List ℕ → ℕ → Answer MinuteTime
-gapAnswer marks place =
-    checked (gapLines marks place (gapBefore marks place)) (gapMinute marks place (gapBefore marks place))
-
 pub gap-ordered : (marks : List ℕ) (place : ℕ) →
     Ordered (gapLines marks place (gapBefore marks place)) (10 ∷ minuteOrder) (gapAnswer marks place)
 unfolding minuteChecks

@@ -62,7 +62,7 @@ use Rattle.feed_state.specs.Feed.{FeedMemory, feedInto}
 use Rattle.radio_clock.proofs.Theorems as face
 use Rattle.demands.specs.Ordered.{Ordered, Lent, FromC}
 use Rattle.demands.specs.Lines.{textOrder, minuteOrder, linesAs, kindLines, writerLines, textLines, minuteLines}
-use Rattle.demands.specs.Lines.{gapLines, readLines, writeLines, readMinuteLines, writeMinuteLines}
+use Rattle.demands.specs.Lines.{gapLines, gapAnswer, readLines, writeLines, readMinuteLines, writeMinuteLines}
 use Rattle.demands.specs.Lines.{unixTimeLines}
 use Rattle.demands.proofs.OrderLaws.{ordered, lent, from-answered, from-left, from-counted}
 use Rattle.demands.proofs.EntryLaws as entry
@@ -137,8 +137,8 @@ run-number m = refl
 -- ---- a recording, its outcomes, and the correction of a mark
 -- at a gap, 10 comes before the numbers of a minute
 pub at-a-gap : (marks : List ℕ) (place : ℕ) → isGap (getD marks place 0) ≡ true
-    → Ordered (gapLines marks place (gapBefore marks place)) (10 ∷ minuteOrder) (entry.gapAnswer marks place)
-    × (rule marks place ≡ outcomeNumber (entry.gapAnswer marks place))
+    → Ordered (gapLines marks place (gapBefore marks place)) (10 ∷ minuteOrder) (gapAnswer marks place)
+    × (rule marks place ≡ outcomeNumber (gapAnswer marks place))
 at-a-gap marks place h = (entry.gap-ordered marks place, entry.gap-number marks place h)
 
 pub at-no-gap : (marks : List ℕ) (place : ℕ) → isGap (getD marks place 0) ≡ false → rule marks place ≡ 0

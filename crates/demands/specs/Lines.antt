@@ -6,7 +6,7 @@ use mathlib.Core.Option.{Option, none, some}
 use lib.Dec.{eqb, ltb}
 use lib.ListN.{length}
 use lib.IntN.{ℤ}
-use Rattle.clock_time.specs.Errors.{Check, given}
+use Rattle.clock_time.specs.Errors.{Answer, Check, given, checked}
 use Rattle.clock_time.specs.Writing.{readsBack}
 use Rattle.calendar.specs.UnixTime.{isValid}
 use Rattle.layout.specs.Text.{Format, textChecks, readText}
@@ -16,8 +16,9 @@ use Rattle.meinberg_gps.specs.Gps.{gps}
 use Rattle.elv_dcf7000.specs.Elv.{elv}
 use Rattle.time_string.specs.declared.Kind.{Kind}
 use Rattle.time_string.specs.declared.Kind.the-variants.{Standard, Pzf, Gps, Elv}
-use Rattle.dcf77.specs.Minute.{minuteChecks, readMinute, minuteText, sameMinute}
+use Rattle.dcf77.specs.Minute.{minuteChecks, minuteFields, readMinute, minuteText, sameMinute}
 use Rattle.dcf77.specs.declared.MinuteTime.{MinuteTime}
+use Rattle.recording.specs.Gaps.{gapBefore}
 use Rattle.recording.specs.Rule.{runBetween}
 use Rattle.clock_fields.specs.Ranges.{timeRanges, gpsRanges, minuteRanges, fits, fitsAll, timeFrom, gpsFrom, minuteFrom}
 
@@ -61,6 +62,16 @@ minuteLines a d = writerLines (readsBack readMinute minuteText sameMinute a) (mi
 abbrev pub gapLines : List ℕ → ℕ → Option ℕ → List Check
 gapLines marks place none = given 10 true ∷ minuteChecks []
 gapLines marks place (some earlier) = given 10 false ∷ minuteChecks (runBetween marks earlier place)
+
+-- what the marks since the nearest earlier gap would say
+abbrev pub gapMinute : List ℕ → ℕ → Option ℕ → MinuteTime
+gapMinute marks place none = minuteFields []
+gapMinute marks place (some earlier) = minuteFields (runBetween marks earlier place)
+
+-- the answer at a gap: its lines in their order, and then the minute
+abbrev pub gapAnswer : List ℕ → ℕ → Answer MinuteTime
+gapAnswer marks place =
+    checked (gapLines marks place (gapBefore marks place)) (gapMinute marks place (gapBefore marks place))
 
 -- ---- from C
 -- "an unknown kind number from C gives 1" (01, Meinberg and ELV strings)

@@ -93,34 +93,23 @@ fn digits_fit(minute: u32, hour: u32, date: u32) -> bool
         & (date / 262144 % 16 <= 9)
 }
 
-// The first of 15 to 18 whose fault is given, else 0.
-fn first_fault(minute: bool, hour: bool, date: bool, digit: bool) -> u8
-    ensures { λ r. ⌜ r ≡ cond minute 15 (cond hour 16 (cond date 17 (cond digit 18 0))) ⌝ }
-{
-    if minute {
-        return 15;
-    }
-    if hour {
-        return 16;
-    }
-    if date {
-        return 17;
-    }
-    if digit {
-        return 18;
-    }
-    0
-}
-
 // The first of 15 to 18 that the numbers give, else 0.
 fn number_error(minute: u32, hour: u32, date: u32) -> u8
     ensures { λ r. ⌜ r ≡ firstNumber (numberChecks minute hour date) ⌝ }
 {
-    let in_minute = marks::is_odd(minute);
-    let in_hour = marks::is_odd(hour);
-    let in_date = marks::is_odd(date);
-    let in_digits = !digits_fit(minute, hour, date);
-    first_fault(in_minute, in_hour, in_date, in_digits)
+    if marks::is_odd(minute) {
+        return 15;
+    }
+    if marks::is_odd(hour) {
+        return 16;
+    }
+    if marks::is_odd(date) {
+        return 17;
+    }
+    if !digits_fit(minute, hour, date) {
+        return 18;
+    }
+    0
 }
 
 // The first of 13 to 18 that the marks give, else 0.

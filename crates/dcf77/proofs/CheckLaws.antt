@@ -1,7 +1,7 @@
 -- The checks of a minute: that of its length, and the others by parts, as the code goes through them. Assumes nothing.
 use Prim.Native.Nat.{ℕ, suc, _≤_}
 use native.Mathlib.Omega.{arith}
-use mathlib.Core.Path.{_≡_, refl, _∙_}
+use mathlib.Core.Path.{_≡_, refl, sym, _∙_}
 use mathlib.Core.Logic.{_⊎_, inl, inr, ⊎-elim}
 use mathlib.Core.Bool.{Bool, true, false, cond, not, _&&_, _||_, and-true}
 use mathlib.Core.List.{List, [], _∷_, _++_}
@@ -13,7 +13,8 @@ use Rattle.clock_time.specs.Errors.{Check, accepted, refused, checked}
 use Rattle.clock_time.proofs.Tests.{both}
 use Rattle.calendar.specs.TimeOfDay.{timeExists}
 use Rattle.dcf77.specs.Minute.{announced, minuteFields, minuteChecks, readMinute}
-use Rattle.dcf77.specs.Numbers.{Numbers, firstNumber, startChecks, numberChecks, dateChecks, timeChecks}
+use Rattle.dcf77.specs.Marks.{allSure}
+use Rattle.dcf77.specs.Numbers.{Sure, Numbers, firstNumber, startChecks, numberChecks, dateChecks, timeChecks}
 use Rattle.dcf77.specs.declared.MinuteTime.{MinuteTime}
 use Rattle.dcf77.proofs.NumberLaws.{minute-odd, hour-odd, date-odd, digits-fit}
 
@@ -79,7 +80,7 @@ number-known (k ∷ ks) e f n w =
     go false f l u later = later f
 
 -- the checks of the date and of the time, on the fields that were read
-abbrev pub fieldChecks : List ℕ → MinuteTime → List Check
+abbrev fieldChecks : List ℕ → MinuteTime → List Check
 fieldChecks m a =
     let t = a .time in
     dateChecks (t .weekday) (t .year) (t .month) (t .day) ++ timeChecks m (t .hour) (t .minute)
@@ -103,34 +104,38 @@ run-checks {m} {n} {h} {d} k long =
       no-second,
     )
 
+-- a run of 59 or 60 sure marks
+pub run-sure : {m : List ℕ} {ok : Bool} → not (eqb (length m) 59 || eqb (length m) 60) ≡ false → ok ≡ allSure m
+    → not ok ≡ false → Sure m
+run-sure long sure passed = record { long = length-between _ long .0; sure = sym sure ∙ not-false _ passed }
+
+-- ---- where the code stops, and what it has passed before: e is what the marks give, g what the date gives, o what the
+-- time gives
 module _ {m : List ℕ} {n h d : ℕ} (k : Numbers m n h d) (long : not (eqb (length m) 59 || eqb (length m) 60) ≡ false)
-    (e : ℕ) (f : e ≡ firstNumber (startChecks m ++ numberChecks n h d))
+    {e : ℕ} (f : e ≡ firstNumber (startChecks m ++ numberChecks n h d))
   where
     pub marks-stop : (e ≡ 0 → ⊥) → readMinute m ≡ refused e
     marks-stop wrong = run-checks k long ∙ stops (fieldChecks m (minuteFields m)) (minuteFields m) _ e f wrong
 
-    pub marks-pass : e ≡ 0 → (a : MinuteTime) → a ≡ minuteFields m → readMinute m ≡ checked (fieldChecks m a) a
-    marks-pass right a same =
-        rw same (run-checks k long ∙ goes-on (fieldChecks m (minuteFields m)) (minuteFields m) _ e f right refl)
+    module _ (marks : e ≡ 0) {a : MinuteTime} (same : a ≡ minuteFields m) {g : ℕ}
+        (p : g ≡ firstNumber (dateChecks (a .time .weekday) (a .time .year) (a .time .month) (a .time .day)))
+      where
+        fields-read : readMinute m ≡ checked (fieldChecks m a) a
+        fields-read =
+            rw same (run-checks k long ∙ goes-on (fieldChecks m (minuteFields m)) (minuteFields m) _ e f marks refl)
 
-module _ (m : List ℕ) (a : MinuteTime) (read : readMinute m ≡ checked (fieldChecks m a) a) (e : ℕ)
-    (f : e ≡ firstNumber (dateChecks (a .time .weekday) (a .time .year) (a .time .month) (a .time .day)))
-  where
-    pub date-stop : (e ≡ 0 → ⊥) → readMinute m ≡ refused e
-    date-stop wrong = read ∙ stops (timeChecks m (a .time .hour) (a .time .minute)) a _ e f wrong
+        pub date-stop : (g ≡ 0 → ⊥) → readMinute m ≡ refused g
+        date-stop wrong = fields-read ∙ stops (timeChecks m (a .time .hour) (a .time .minute)) a _ g p wrong
 
-    pub date-pass : e ≡ 0 → readMinute m ≡ checked (timeChecks m (a .time .hour) (a .time .minute)) a
-    date-pass right = read ∙ goes-on (timeChecks m (a .time .hour) (a .time .minute)) a _ e f right refl
+        module _ (date : g ≡ 0) {o : ℕ} (q : o ≡ firstNumber (timeChecks m (a .time .hour) (a .time .minute))) where
+          date-passed : readMinute m ≡ checked (timeChecks m (a .time .hour) (a .time .minute)) a
+          date-passed = fields-read ∙ goes-on (timeChecks m (a .time .hour) (a .time .minute)) a _ g p date refl
 
-module _ (m : List ℕ) (a : MinuteTime)
-    (read : readMinute m ≡ checked (timeChecks m (a .time .hour) (a .time .minute)) a) (e : ℕ)
-    (f : e ≡ firstNumber (timeChecks m (a .time .hour) (a .time .minute)))
-  where
-    pub time-stop : (e ≡ 0 → ⊥) → readMinute m ≡ refused e
-    time-stop wrong = read ∙ stops [] a _ e f wrong
+          pub time-stop : (o ≡ 0 → ⊥) → readMinute m ≡ refused o
+          time-stop wrong = date-passed ∙ stops [] a _ o q wrong
 
-    pub time-pass : e ≡ 0 → readMinute m ≡ accepted a
-    time-pass right = read ∙ goes-on [] a _ e f right refl
+          pub time-pass : o ≡ 0 → readMinute m ≡ accepted a
+          time-pass right = date-passed ∙ goes-on [] a _ o q right refl
 
 pub above : (k n : ℕ) → (n ≡ k → ⊥) → k ≤ n → suc k ≤ n
 above k n differ least = omega arith

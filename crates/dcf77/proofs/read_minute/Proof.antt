@@ -1,14 +1,13 @@
 -- `dcf77::read_minute` meets its contract: the checks are gone through part by part. Assumes nothing.
 use borrow.Author.Needs.{needs}
 use native.Mathlib.Omega.{arith}
-use mathlib.Core.Path.{_≡_, refl, sym, ap, _∙_}
+use mathlib.Core.Path.{refl, sym, ap, _∙_}
 use denote.Ref.{now}
-use borrow.Author.Tests.{not-false}
-use Rattle.clock_time.specs.Errors.{checked, refused}
+use Rattle.clock_time.specs.Errors.{refused}
 use Rattle.dcf77.specs.Minute.{minuteChecks, readMinute}
-use Rattle.dcf77.specs.Numbers.{Sure, Numbers, timeChecks}
-use Rattle.dcf77.proofs.CheckLaws.{length-between, number-known, fieldChecks}
-use Rattle.dcf77.proofs.CheckLaws.{marks-stop, marks-pass, date-stop, date-pass, time-stop, time-pass}
+use Rattle.dcf77.specs.Numbers.{Sure, Numbers}
+use Rattle.dcf77.proofs.CheckLaws.{length-between, number-known, run-sure}
+use Rattle.dcf77.proofs.CheckLaws.{marks-stop, date-stop, time-stop, time-pass}
 use Rattle.dcf77.proofs.read_minute.Statement.{statement}
 use Rattle.dcf77.proofs.read_minute.Tie as tie
 
@@ -25,11 +24,7 @@ returns-2 c = simp (c .before .before .if1 .left, ← (c .before .all-sure .ensu
 
 -- ---- a run of sure marks
 sure : (c : tie.Else2) → Sure (now (c .before .before .before .before .args .m))
-sure c =
-    record {
-      long = length-between _ (c .before .before .if1 .left) .0;
-      sure = sym (c .before .all-sure .ensures) ∙ not-false _ (c .if2 .left);
-    }
+sure c = run-sure (c .before .before .if1 .left) (c .before .all-sure .ensures) (c .if2 .left)
 
 read-eight-requires : tie.Need-read-eight-requires
 read-eight-requires c κs = (omega (arith, sure c .long), sure c .sure)
@@ -45,24 +40,6 @@ numbers c =
       date = c .read-date .ensures;
     }
 
--- ---- the fields, and the checks that are left
-fields-read : (c : tie.After-fields)
-    → let m = now (c .before .before .before .before .before .before .before .before .before .before .args .m) in
-    readMinute m ≡ checked (fieldChecks m (c .fields .result)) (c .fields .result)
-fields-read c =
-    let e = c .before .before in
-    marks-pass (numbers (e .before)) (e .before .before .before .before .before .before .if1 .left) _
-    (e .marks-error .ensures) (c .before .if3 .left) _ (c .fields .ensures)
-
-date-passed : (c : tie.Else4)
-    → let f = c .before .before .before in
-    let m = now (f .before .before .before .before .before .before .before .before .before .before .args .m) in
-    let t = f .fields .result .time in
-    readMinute m ≡ checked (timeChecks m (t .hour) (t .minute)) (f .fields .result)
-date-passed c =
-    let f = c .before .before .before in
-    date-pass _ (f .fields .result) (fields-read f) _ (c .before .date-error .ensures) (c .if4 .left)
-
 -- ---- errors
 error-of-requires : tie.Need-error-of-requires
 error-of-requires c κs = number-known _ _ (c .before .marks-error .ensures) (c .if3 .taken) refl
@@ -70,9 +47,10 @@ error-of-requires c κs = number-known _ _ (c .before .marks-error .ensures) (c 
 returns-3 : tie.Need-returns-3
 returns-3 c =
     let e = c .before .before in
+    let r = e .before in
     ap refused (c .error-of .ensures)
-    ∙ sym (marks-stop (numbers (e .before)) (e .before .before .before .before .before .before .if1 .left) _
-    (e .marks-error .ensures) (c .before .if3 .taken))
+    ∙ sym (marks-stop (numbers r) (r .before .before .before .before .before .if1 .left) (e .marks-error .ensures)
+    (c .before .if3 .taken))
 
 error-of-requires-2 : tie.Need-error-of-requires-2
 error-of-requires-2 c κs = number-known _ _ (c .before .date-error .ensures) (c .if4 .taken) refl
@@ -81,24 +59,37 @@ returns-4 : tie.Need-returns-4
 returns-4 c =
     let e = c .before .before in
     let f = e .before .before in
+    let k = f .before .before in
+    let r = k .before in
     ap refused (c .error-of2 .ensures)
-    ∙ sym (date-stop _ (f .fields .result) (fields-read f) _ (e .date-error .ensures) (c .before .if4 .taken))
+    ∙ sym (date-stop (numbers r) (r .before .before .before .before .before .if1 .left) (k .marks-error .ensures)
+    (f .before .if3 .left) (f .fields .ensures) (e .date-error .ensures) (c .before .if4 .taken))
 
 error-of-requires-3 : tie.Need-error-of-requires-3
 error-of-requires-3 c κs = number-known _ _ (c .before .time-error .ensures) (c .if5 .taken) refl
 
 returns-5 : tie.Need-returns-5
 returns-5 c =
-    let e = c .before .before in
-    let f = e .before .before .before .before in
+    let o = c .before .before in
+    let e = o .before .before in
+    let f = e .before .before in
+    let k = f .before .before in
+    let r = k .before in
     ap refused (c .error-of3 .ensures)
-    ∙ sym (time-stop _ (f .fields .result) (date-passed (e .before)) _ (e .time-error .ensures) (c .before .if5 .taken))
+    ∙ sym (time-stop (numbers r) (r .before .before .before .before .before .if1 .left) (k .marks-error .ensures)
+    (f .before .if3 .left) (f .fields .ensures) (e .date-error .ensures) (o .before .if4 .left)
+    (o .time-error .ensures) (c .before .if5 .taken))
 
 returns-6 : tie.Need-returns-6
 returns-6 c =
-    let e = c .before in
-    let f = e .before .before .before .before in
-    sym (time-pass _ (f .fields .result) (date-passed (e .before)) _ (e .time-error .ensures) (c .if5 .left))
+    let o = c .before in
+    let e = o .before .before in
+    let f = e .before .before in
+    let k = f .before .before in
+    let r = k .before in
+    sym (time-pass (numbers r) (r .before .before .before .before .before .if1 .left) (k .marks-error .ensures)
+    (f .before .if3 .left) (f .fields .ensures) (e .date-error .ensures) (o .before .if4 .left)
+    (o .time-error .ensures) (c .if5 .left))
 
 pub read-minute-spec : {M : Type 1} → statement M
 read-minute-spec =

@@ -1,14 +1,13 @@
 -- `dcf77::run_number` meets its contract: the checks are gone through part by part. Assumes nothing.
 use borrow.Author.Needs.{needs}
 use native.Mathlib.Omega.{arith}
-use mathlib.Core.Path.{_≡_, sym, ap, _∙_}
+use mathlib.Core.Path.{_≡_, sym, ap}
 use denote.Ref.{now}
-use borrow.Author.Tests.{not-false}
-use Rattle.clock_time.specs.Errors.{accepted, checked}
+use Rattle.clock_time.specs.Errors.{accepted}
 use Rattle.dcf77.specs.Minute.{minuteChecks, readMinute, outcomeNumber, runNumber}
-use Rattle.dcf77.specs.Numbers.{Sure, Numbers, timeChecks}
-use Rattle.dcf77.proofs.CheckLaws.{length-between, fieldChecks}
-use Rattle.dcf77.proofs.CheckLaws.{marks-stop, marks-pass, date-stop, date-pass, time-stop, time-pass}
+use Rattle.dcf77.specs.Numbers.{Sure, Numbers}
+use Rattle.dcf77.proofs.CheckLaws.{length-between, run-sure}
+use Rattle.dcf77.proofs.CheckLaws.{marks-stop, date-stop, time-stop, time-pass}
 use Rattle.dcf77.proofs.RunLaws.{accepted-known, fields-summer}
 use Rattle.dcf77.proofs.run_number.Statement.{statement}
 use Rattle.dcf77.proofs.run_number.Tie as tie
@@ -26,11 +25,7 @@ returns-2 c = simp (c .before .before .if1 .left, ← (c .before .all-sure .ensu
 
 -- ---- a run of sure marks
 sure : (c : tie.Else2) → Sure (now (c .before .before .before .before .args .m))
-sure c =
-    record {
-      long = length-between _ (c .before .before .if1 .left) .0;
-      sure = sym (c .before .all-sure .ensures) ∙ not-false _ (c .if2 .left);
-    }
+sure c = run-sure (c .before .before .if1 .left) (c .before .all-sure .ensures) (c .if2 .left)
 
 read-eight-requires : tie.Need-read-eight-requires
 read-eight-requires c κs = (omega (arith, sure c .long), sure c .sure)
@@ -46,58 +41,55 @@ numbers c =
       date = c .read-date .ensures;
     }
 
--- ---- the fields, and the checks that are left
-fields-read : (c : tie.After-fields)
-    → let m = now (c .before .before .before .before .before .before .before .before .before .before .args .m) in
-    readMinute m ≡ checked (fieldChecks m (c .fields .result)) (c .fields .result)
-fields-read c =
-    let e = c .before .before in
-    marks-pass (numbers (e .before)) (e .before .before .before .before .before .before .if1 .left) _
-    (e .marks-error .ensures) (c .before .if3 .left) _ (c .fields .ensures)
-
-date-passed : (c : tie.Else4)
-    → let f = c .before .before .before in
-    let m = now (f .before .before .before .before .before .before .before .before .before .before .args .m) in
-    let t = f .fields .result .time in
-    readMinute m ≡ checked (timeChecks m (t .hour) (t .minute)) (f .fields .result)
-date-passed c =
-    let f = c .before .before .before in
-    date-pass _ (f .fields .result) (fields-read f) _ (c .before .date-error .ensures) (c .if4 .left)
-
-time-passed : (c : tie.Else5)
-    → let f = c .before .before .before .before .before in
-    let m = now (f .before .before .before .before .before .before .before .before .before .before .args .m) in
-    readMinute m ≡ accepted (f .fields .result)
-time-passed c =
-    let e = c .before in
-    let f = e .before .before .before .before in
-    time-pass _ (f .fields .result) (date-passed (e .before)) _ (e .time-error .ensures) (c .if5 .left)
-
 -- ---- errors
 returns-3 : tie.Need-returns-3
 unfolding runNumber
 returns-3 c =
     let e = c .before in
-    sym (ap outcomeNumber (marks-stop (numbers (e .before))
-    (e .before .before .before .before .before .before .if1 .left) _ (e .marks-error .ensures) (c .if3 .taken)))
+    let r = e .before in
+    sym (ap outcomeNumber
+    (marks-stop (numbers r) (r .before .before .before .before .before .if1 .left) (e .marks-error .ensures)
+    (c .if3 .taken)))
 
 returns-4 : tie.Need-returns-4
 unfolding runNumber
 returns-4 c =
     let e = c .before in
     let f = e .before .before in
+    let k = f .before .before in
+    let r = k .before in
     sym (ap outcomeNumber
-    (date-stop _ (f .fields .result) (fields-read f) _ (e .date-error .ensures) (c .if4 .taken)))
+    (date-stop (numbers r) (r .before .before .before .before .before .if1 .left) (k .marks-error .ensures)
+    (f .before .if3 .left) (f .fields .ensures) (e .date-error .ensures) (c .if4 .taken)))
 
 returns-5 : tie.Need-returns-5
 unfolding runNumber
 returns-5 c =
-    let e = c .before in
-    let f = e .before .before .before .before in
+    let o = c .before in
+    let e = o .before .before in
+    let f = e .before .before in
+    let k = f .before .before in
+    let r = k .before in
     sym (ap outcomeNumber
-    (time-stop _ (f .fields .result) (date-passed (e .before)) _ (e .time-error .ensures) (c .if5 .taken)))
+    (time-stop (numbers r) (r .before .before .before .before .before .if1 .left) (k .marks-error .ensures)
+    (f .before .if3 .left) (f .fields .ensures) (e .date-error .ensures) (o .before .if4 .left)
+    (o .time-error .ensures) (c .if5 .taken)))
 
 -- ---- the number of the minute
+time-passed : (c : tie.Else5)
+    → let f = c .before .before .before .before .before in
+    let m = now (f .before .before .before .before .before .before .before .before .before .before .args .m) in
+    readMinute m ≡ accepted (f .fields .result)
+time-passed c =
+    let o = c .before in
+    let e = o .before .before in
+    let f = e .before .before in
+    let k = f .before .before in
+    let r = k .before in
+    time-pass (numbers r) (r .before .before .before .before .before .if1 .left) (k .marks-error .ensures)
+    (f .before .if3 .left) (f .fields .ensures) (e .date-error .ensures) (o .before .if4 .left)
+    (o .time-error .ensures) (c .if5 .left)
+
 minute-number-requires : tie.Need-minute-number-requires
 minute-number-requires c κs =
     (accepted-known _ _ (time-passed (c .before .before)), c .flags-number .ensures .0)

@@ -38,6 +38,20 @@ abbrev within : List Check → Bool
 within [] = true
 within (k ∷ ks) = leb 5 (k .number) && leb (k .number) 19 && within ks
 
+pub first-none : 0 ≡ firstNumber []
+unfolding firstNumber
+first-none = refl
+
+-- a check that fails is the first, one that passes leaves it to those after it; t is what the code found
+module _ (k : Check) (ks : List Check) {t : Bool} (e : t ≡ k .fails) where
+  pub first-here : t ≡ true → k .number ≡ firstNumber (k ∷ ks)
+  unfolding firstNumber
+  first-here h = rw (sym e ∙ h) refl
+
+  pub first-later : {n : ℕ} → t ≡ false → n ≡ firstNumber ks → n ≡ firstNumber (k ∷ ks)
+  unfolding firstNumber
+  first-later h later = rw (sym e ∙ h) later
+
 module _ (more : List Check) (a : MinuteTime) where
   stops : (ks : List Check) (e : ℕ) → e ≡ firstNumber ks → (e ≡ 0 → ⊥) → checked (ks ++ more) a ≡ refused e
   unfolding firstNumber

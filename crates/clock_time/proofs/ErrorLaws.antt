@@ -4,7 +4,6 @@ use native.Mathlib.Omega.{arith}
 use mathlib.Core.Path.{_≡_, refl}
 use mathlib.Core.Bool.{Bool, true, false, cond}
 use mathlib.Core.List.{List, [], _∷_}
-use lib.Dec.{eqb}
 use lib.ListN.{getD}
 use Rattle.clock_time.specs.Errors.{errorNumber, accepted, refused, Check, checked}
 use Rattle.clock_time.specs.declared.Error.{Error}
@@ -51,32 +50,6 @@ errorOf-number LentMemory = refl
 errorOf-number Place = refl
 errorOf-number NewMark = refl
 errorOf-number Unrepresentable = refl
-
--- 0 is no error's number
-pub number-positive : (e : Error) → eqb (errorNumber e) 0 ≡ false
-number-positive Length = refl
-number-positive FixedByte = refl
-number-positive NotDigit = refl
-number-positive FlagLetter = refl
-number-positive NoSuchDate = refl
-number-positive NoSuchTime = refl
-number-positive Weekday = refl
-number-positive UtcOffset = refl
-number-positive Position = refl
-number-positive NoEarlierGap = refl
-number-positive RunLength = refl
-number-positive UnsureMark = refl
-number-positive StartMark = refl
-number-positive ZoneMarks = refl
-number-positive MinuteParity = refl
-number-positive HourParity = refl
-number-positive DateParity = refl
-number-positive DecimalDigit = refl
-number-positive LeapMinute = refl
-number-positive LentMemory = refl
-number-positive Place = refl
-number-positive NewMark = refl
-number-positive Unrepresentable = refl
 
 -- ---- what is accepted has passed every check
 abbrev pub Passes : List Check → Type 0

@@ -26,12 +26,9 @@ digit-range b h =
     let both = and-eq-true-iff (leb 48 b) (leb b 57) .0 h in
     (leb-true 48 b (both .0), leb-true b 57 (both .1))
 
-digit-written : (n : ℕ) → isDigit (48 + n % 10) ≡ true
+pub digit-written : (n : ℕ) → isDigit (48 + n % 10) ≡ true
 unfolding isDigit
-digit-written n =
-    let low : 48 ≤ 48 + n % 10 = omega arith in
-    let high : 48 + n % 10 ≤ 57 = omega arith in
-    simp (le-leb _ _ low, le-leb _ _ high)
+digit-written n = simp (le-leb 48 (48 + n % 10) (omega arith), le-leb (48 + n % 10) 57 (omega arith))
 
 -- ---- the first byte that is no digit
 pub first-digit : (b : ℕ) (s : List ℕ) → isDigit b ≡ true → firstNonDigit (b ∷ s) ≡ suc (firstNonDigit s)
@@ -98,13 +95,20 @@ unfolding digits
 length-digits zero n = refl
 length-digits (suc k) n = rw length-append (omega (arith, length-digits k (n / 10)))
 
+pub tenth-below : (k n : ℕ) → n < 10 ^ suc k → n / 10 < 10 ^ k
+tenth-below k n h = omega (arith, pow-succ' 10 k)
+
+-- a last byte after those of a number's tenth
+pub value-last : (s : List ℕ) (b n : ℕ) → value s ≡ n / 10 → b - 48 ≡ n % 10 → value (s ++ (b ∷ [])) ≡ n
+unfolding valueFrom
+value-last s b n e h = rw (valueFrom-append 0, e) (omega arith)
+
 -- a number below 10 ^ k is what its last k digits stand for
 pub value-digits : (k n : ℕ) → n < 10 ^ k → value (digits k n) ≡ n
 unfolding digits valueFrom
 value-digits zero n h = omega arith
 value-digits (suc k) n h =
-    let small : n / 10 < 10 ^ k = omega (arith, pow-succ' 10 k) in
-    rw (valueFrom-append 0, value-digits k (n / 10) small) (omega arith)
+    value-last (digits k (n / 10)) _ n (value-digits k (n / 10) (tenth-below k n h)) (omega arith)
 
 digits-valueFrom : (s : List ℕ) → firstNonDigit s ≡ length s → (k n : ℕ)
     → digits (length s + k) (valueFrom n s) ≡ digits k n ++ s

@@ -6,7 +6,7 @@ use native.Mathlib.Decide.{ℕ-discrete, decLt}
 use mathlib.Core.Path.{_≡_, refl, sym, ap, _∙_}
 use mathlib.Core.Bool.{Bool, true, false, not, cond, _&&_, _||_, Bool·beq}
 use mathlib.Core.List.{List}
-use lib.Dec.{eqb, leb, ltb, eqb→eq, lit<, lit≤}
+use lib.Dec.{eqb, leb, ltb, eqb→eq}
 use lib.ListN.{getD}
 use mir.Val.{boolByte}
 use borrow.Author.Tests.{eq-eqb, ne-eqb, eqb-true, leb-true, le-leb, lt-ltb, le-ltb, ltb-false, not-true}
@@ -21,14 +21,14 @@ use Rattle.calendar.specs.UnixTime.{isValid}
 use Rattle.calendar.proofs.ValidLaws.{zone-in-range}
 use Rattle.gregorian.proofs.DateLaws.{known-exists}
 use Rattle.decimal.specs.Decimal.{digits, value, valueFrom}
-use Rattle.decimal.proofs.DecimalLaws.{value-digits, digit-range}
+use Rattle.decimal.proofs.DecimalLaws.{digit-range, digit-written, value-digits}
 use Rattle.layout.specs.Ascii.{ascii}
 use Rattle.layout.specs.Layout.{allowed, fitsFrom, FitsLayout, number}
 use Rattle.layout.specs.Text.{clockChecks}
 use Rattle.layout.proofs.LayoutLaws.{tested-fits, digit-place}
 use Rattle.layout.proofs.TextLaws.{read-fitting}
 use Rattle.layout.proofs.WriteLaws.{restore-fits, digits-number, digits-year}
-use Rattle.layout.proofs.DecideLaws.{digit-fits, written, DecidesClock}
+use Rattle.layout.proofs.DecideLaws.{numbers-written, DecidesClock}
 use Rattle.elv_dcf7000.specs.Elv.{elvLayout, elvFlags, elvFlagFault, summerIn, changeIn, unsynchronisedIn}
 use Rattle.elv_dcf7000.specs.Elv.{elvOffset, sentFields, withWeekday, elvFields, flagSum, elvText, elvCarries}
 use Rattle.elv_dcf7000.specs.Elv.{elv, readElv}
@@ -77,11 +77,11 @@ day-checks t n year monday =
 module _ {s : List ℕ} (h : FitsLayout elvLayout s) where
   first-flag : (48 ≤ getD s 18 0) × (getD s 18 0 ≤ 57)
   unfolding elvLayout ascii
-  first-flag = digit-range (getD s 18 0) (digit-place h 18 (lit< tt) refl)
+  first-flag = digit-range (getD s 18 0) (digit-place h 18 refl)
 
   second-flag : (48 ≤ getD s 19 0) × (getD s 19 0 ≤ 57)
   unfolding elvLayout ascii
-  second-flag = digit-range (getD s 19 0) (digit-place h 19 (lit< tt) refl)
+  second-flag = digit-range (getD s 19 0) (digit-place h 19 refl)
 
   -- the number is at most 7 if its first digit is 0 and its second at most 7
   pub flag-fault : (not (eqb (getD s 18 0) 48) || ltb 55 (getD s 19 0)) ≡ elvFlagFault s
@@ -143,24 +143,13 @@ pub elv-back : (s : List ℕ) → AcceptsElv s → elvText (elvFields s) ≡ s
 unfolding elvText elvFields withWeekday sentFields elvLayout ascii
 elv-back s r =
     let h = r .fits in
-    let d = digits-number h in
     let few : elvFlags s < 8 = omega (arith, r .flags) in
-    simp (
-      digits-year h 0 (lit≤ tt) refl,
-      d 2 3 (lit≤ tt) refl,
-      d 2 6 (lit≤ tt) refl,
-      d 2 9 (lit≤ tt) refl,
-      d 2 12 (lit≤ tt) refl,
-      d 2 15 (lit≤ tt) refl,
-      flagSum-back (elvFlags s) few,
-      d 2 18 (lit≤ tt) refl,
-    )
-    (restore-fits h)
+    simp (digits-number h 2, digits-year h, flagSum-back (elvFlags s) few) (restore-fits h)
 
 -- ---- deciding from the clock time
 text-fits : (t : ClockTime) → FitsLayout elvLayout (elvText t)
 unfolding elvLayout elvText ascii digits fitsFrom allowed
-text-fits t = tested-fits elvLayout (elvText t) refl (simp digit-fits)
+text-fits t = tested-fits elvLayout (elvText t) refl (simp digit-written)
 
 -- the text's number of flags has two digits, is no fault, and says the flags
 flags-small : (a b c : Bool) → flagSum a b c ≤ 7
@@ -202,7 +191,6 @@ text-faultless t =
 text-says : (t : ClockTime) → isValid t ≡ true → elvCarries t ≡ true → elvFields (elvText t) ≡ t
 unfolding elvCarries elvFields withWeekday sentFields elvText ascii digits sameTime sameFields flagsOf
 text-says t h k =
-    let w = written t h in
     let zone = eqℤ (elvOffset (t .«summer_time»)) (t .«utc_offset») in
     let day = eqb (weekdayOrZero (t .year) (t .month) (t .day)) (t .weekday) in
     let x = both (zone && day && not (t .unverified) && not (t .«leap_second_announced»))
@@ -212,16 +200,11 @@ text-says t h k =
     let v = both zone day (z .0) in
     sameTime-true _ t
     (simp (
-      w .year,
-      w .month,
-      w .day,
-      w .hour,
-      w .minute,
-      w .second,
-      flags-digits t,
-      summer-said (t .«summer_time») (t .«dst_change_announced») (t .unsynchronised),
-      change-said (t .«summer_time») (t .«dst_change_announced») (t .unsynchronised),
-      unsynchronised-said (t .«summer_time») (t .«dst_change_announced») (t .unsynchronised),
+      numbers-written,
+      flags-digits,
+      summer-said,
+      change-said,
+      unsynchronised-said,
       v .0,
       v .1,
       not-true (t .unverified) (z .1),
@@ -229,7 +212,6 @@ text-says t h k =
       not-true (t .«alternate_antenna») (x .1),
       eqb-refl,
       beq-refl,
-      eqℤ-refl,
     ))
 
 pub decides : DecidesClock elvLayout elvFlagFault elvFields elvText elvCarries

@@ -1,5 +1,5 @@
 -- Right-aligned numbers are read as they were written, for any number of places. Assumes nothing.
-use Prim.Native.Nat.{ℕ, zero, suc, _+_, _/_, _%_, _^_, _<_}
+use Prim.Native.Nat.{ℕ, zero, suc, _+_, _-_, _/_, _%_, _^_, _<_}
 use native.Mathlib.Decide.{decLt, ℕ-discrete}
 use native.Mathlib.Nat.{pow-succ', div-one, div-div-eq-div-mul}
 use native.Mathlib.Omega.{arith}
@@ -8,30 +8,27 @@ use mathlib.Core.Bool.{true, or-true}
 use mathlib.Core.List.{List, [], _∷_, _++_, append-assoc}
 use borrow.Author.Tests.{le-leb, ne-eqb}
 use Rattle.decimal.specs.Decimal.{valueFrom, value, digits}
-use Rattle.decimal.proofs.DecimalLaws.{valueFrom-append}
-use Rattle.layout.proofs.DecideLaws.{digit-fits}
+use Rattle.decimal.proofs.DecimalLaws.{digit-written, valueFrom-append, tenth-below, value-last}
 use Rattle.gps_position.specs.Aligned.{areDigits, rightAligned, blankOr, padded, aligned}
 
 -- ---- the number
-value-blankOr : (n : ℕ) → valueFrom (n / 10) (blankOr n ∷ []) ≡ n
-unfolding valueFrom blankOr
-value-blankOr zero = refl
-value-blankOr (suc n) = rw (ne-eqb (suc n) 0 (λ e. omega arith)) (omega arith)
+blank-or : (n : ℕ) → blankOr n - 48 ≡ n % 10
+unfolding blankOr
+blank-or zero = refl
+blank-or (suc n) = rw (ne-eqb (suc n) 0 (λ e. omega arith)) (omega arith)
 
 value-padded : (k n : ℕ) → n < 10 ^ k → value (padded k n) ≡ n
 unfolding padded valueFrom
 value-padded zero n h = omega arith
 value-padded (suc k) n h =
-    let small : n / 10 < 10 ^ k = omega (arith, pow-succ' 10 k) in
-    rw (valueFrom-append 0, value-padded k (n / 10) small) (value-blankOr n)
+    value-last (padded k (n / 10)) (blankOr n) n (value-padded k (n / 10) (tenth-below k n h)) (blank-or n)
 
 -- a number below 10 ^ k is what it is written as
 pub value-aligned : (k n : ℕ) → n < 10 ^ k → value (aligned k n) ≡ n
 unfolding aligned valueFrom
 value-aligned zero n h = omega arith
 value-aligned (suc k) n h =
-    let small : n / 10 < 10 ^ k = omega (arith, pow-succ' 10 k) in
-    rw (valueFrom-append 0, value-padded k (n / 10) small) (omega arith)
+    value-last (padded k (n / 10)) _ n (value-padded k (n / 10) (tenth-below k n h)) (omega arith)
 
 -- ---- blanks and digits
 pub high-first : (b c : ℕ) (s : List ℕ) → 48 < b → b < 58 → areDigits (c ∷ s) ≡ true → rightAligned (b ∷ c ∷ s) ≡ true
@@ -54,8 +51,7 @@ after-digits (suc k) n some h b s d =
           let none : n / 10 ≡ 0 = omega arith in
           rw none (after-blanks k (48 + n % 10) (b ∷ s) (high-first (48 + n % 10) b s (omega arith) (omega arith) d))
       | no more ↦
-          let small : n / 10 < 10 ^ k = omega (arith, pow-succ' 10 k) in
-          after-digits k (n / 10) (omega arith) small (48 + n % 10) (b ∷ s) (rw (digit-fits n) d)
+          after-digits k (n / 10) (omega arith) (tenth-below k n h) (48 + n % 10) (b ∷ s) (rw (digit-written n) d)
     ])
 
 -- a number below 10 ^ k is written right-aligned
@@ -63,16 +59,15 @@ pub aligned-right : (k n : ℕ) → 0 < k → n < 10 ^ k → rightAligned (align
 unfolding aligned rightAligned areDigits
 aligned-right zero n some h = absurd (omega arith)
 aligned-right (suc k) n some h =
-    let small : n / 10 < 10 ^ k = omega (arith, pow-succ' 10 k) in
     elim (ℕ-discrete (n / 10) 0) [
-      | yes none ↦ rw none (after-blanks k (48 + n % 10) [] (digit-fits n))
-      | no more ↦ after-digits k (n / 10) (omega arith) small (48 + n % 10) [] (rw (digit-fits n))
+      | yes none ↦ rw none (after-blanks k (48 + n % 10) [] (digit-written n))
+      | no more ↦ after-digits k (n / 10) (omega arith) (tenth-below k n h) (48 + n % 10) [] (rw (digit-written n))
     ]
 
 -- ---- digits after a number
 pub four-digits : (n : ℕ) → areDigits (digits 4 n) ≡ true
 unfolding areDigits digits
-four-digits n = simp digit-fits
+four-digits n = simp digit-written
 
 pub value-after : (k n : ℕ) → valueFrom (n / 10 ^ k) (digits k n) ≡ n
 unfolding valueFrom digits

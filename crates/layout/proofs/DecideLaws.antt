@@ -1,78 +1,65 @@
 -- A format's writer may decide from the value: it is written exactly if it is a valid reading that the format carries.
 -- Assumes nothing.
-use Prim.Native.Nat.{ℕ, _+_, _/_, _%_, _<_}
-use Prim.Native.Char.{Char, code}
+use Prim.Native.Nat.{ℕ, _%_, _<_}
 use native.Mathlib.Omega.{arith}
 use mathlib.Core.Path.{_≡_, refl, _∙_}
-use mathlib.Core.Bool.{Bool, true, false, _&&_, _||_}
+use mathlib.Core.Bool.{Bool, true, false, cond, _&&_, _||_, or-true}
 use mathlib.Core.List.{List}
 use lib.Dec.{eqb}
-use borrow.Author.Tests.{eq-eqb, le-leb}
 use Rattle.clock_time.specs.Errors.{accepted}
 use Rattle.clock_time.specs.Writing.{writing, writeBack}
 use Rattle.clock_time.specs.declared.ClockTime.{ClockTime}
 use Rattle.clock_time.proofs.BackLaws.{decided}
-use Rattle.clock_time.proofs.SameLaws.{sameTime-refl, sameTime-true}
+use Rattle.clock_time.proofs.SameLaws.{eqb-refl, sameTime-refl, sameTime-true}
 use Rattle.clock_time.proofs.Tests.{both}
 use Rattle.gregorian.specs.Date.{fullYear}
 use Rattle.calendar.specs.UnixTime.{offsetInRange, isValid}
 use Rattle.calendar.proofs.ValidLaws.{valid, checked-valid, year-back}
-use Rattle.decimal.specs.Decimal.{isDigit, digits, value}
+use Rattle.decimal.specs.Decimal.{digits, value}
 use Rattle.decimal.proofs.DecimalLaws.{value-digits}
 use Rattle.layout.specs.Layout.{FitsLayout}
-use Rattle.layout.specs.Text.{Format, clockFormat, readText, writeText, letter}
+use Rattle.layout.specs.Text.{Format, clockFormat, readText, writeText}
+use Rattle.layout.proofs.WriteLaws.{year-digits}
 use Rattle.layout.proofs.AcceptLaws.{PassesText, read-passes, passes-read}
 
 -- ---- what a text has at its places
-pub digit-fits : (n : ℕ) → isDigit (48 + n % 10) ≡ true
-unfolding isDigit
-digit-fits n = rw (le-leb 48 (48 + n % 10) (omega arith), le-leb (48 + n % 10) 57 (omega arith))
-
 -- a flag's letter may stand at its place, and is read as it was written
-pub letter-fits : (on : Bool) (c : Char) → (eqb (letter on c) 32 || eqb (letter on c) (code c)) ≡ true
-letter-fits true c = rw (eq-eqb (code c) (code c) refl) (or-true (eqb (code c) 32))
-  where
-    or-true : (b : Bool) → (b || true) ≡ true
-    or-true true = refl
-    or-true false = refl
-letter-fits false c = refl
+pub letter-fits : (on : Bool) (n : ℕ) → (eqb (cond on n 32) 32 || eqb (cond on n 32) n) ≡ true
+letter-fits true n = rw (eqb-refl n, or-true)
+letter-fits false n = refl
 
-pub letter-read : (c : Char) → eqb 32 (code c) ≡ false → (on : Bool) → eqb (letter on c) (code c) ≡ on
-letter-read c h true = eq-eqb (code c) (code c) refl
-letter-read c h false = h
+pub letter-read : (on : Bool) (n : ℕ) → eqb 32 n ≡ false → eqb (cond on n 32) n ≡ on
+letter-read true n h = eqb-refl n
+letter-read false n h = h
 
 -- ---- the numbers of a valid reading are read as they were written
-pub record Written (t : ClockTime) : Type 0 where
-  pub year : fullYear (value (digits 2 (t .year))) ≡ t .year
-  pub month : value (digits 2 (t .month)) ≡ t .month
-  pub day : value (digits 2 (t .day)) ≡ t .day
-  pub weekday : value (digits 1 (t .weekday)) ≡ t .weekday
-  pub hour : value (digits 2 (t .hour)) ≡ t .hour
-  pub minute : value (digits 2 (t .minute)) ≡ t .minute
-  pub second : value (digits 2 (t .second)) ≡ t .second
+module _ (t : ClockTime) (h : isValid t ≡ true) where
+  pub year-written : fullYear (value (digits 2 (t .year))) ≡ t .year
+  year-written =
+      let d = valid t h .date in
+      let small : t .year % 100 < 100 = omega arith in
+      rw (year-digits (t .year), value-digits 2 (t .year % 100) small) (year-back (t .year) (d .first) (d .last))
 
-year-digits : (y : ℕ) → digits 2 y ≡ digits 2 (y % 100)
-unfolding digits
-year-digits y =
-    let tens : y % 100 / 10 % 10 ≡ y / 10 % 10 = omega arith in
-    let ones : y % 100 % 10 ≡ y % 10 = omega arith in
-    rw (tens, ones)
+  pub month-written : value (digits 2 (t .month)) ≡ t .month
+  month-written = value-digits 2 (t .month) (omega (arith, valid t h .date .month))
 
-pub written : (t : ClockTime) → isValid t ≡ true → Written t
-written t h =
-    let v = valid t h in
-    let d = v .date in
-    let small : t .year % 100 < 100 = omega arith in
-    let back = year-back (t .year) (d .first) (d .last) in
-    record {
-      year = rw (year-digits (t .year), value-digits 2 (t .year % 100) small) back;
-      month = value-digits 2 (t .month) (omega (arith, d .month));
-      day = value-digits 2 (t .day) (omega (arith, d .small));
-      weekday = value-digits 1 (t .weekday) (omega (arith, v .sunday));
-      hour = value-digits 2 (t .hour) (omega (arith, v .hour));
-      minute = value-digits 2 (t .minute) (omega (arith, v .minute));
-      second = value-digits 2 (t .second) (omega (arith, v .second));
-    }
+  pub day-written : value (digits 2 (t .day)) ≡ t .day
+  day-written = value-digits 2 (t .day) (omega (arith, valid t h .date .small))
+
+  pub weekday-written : value (digits 1 (t .weekday)) ≡ t .weekday
+  weekday-written = value-digits 1 (t .weekday) (omega (arith, valid t h .sunday))
+
+  pub hour-written : value (digits 2 (t .hour)) ≡ t .hour
+  hour-written = value-digits 2 (t .hour) (omega (arith, valid t h .hour))
+
+  pub minute-written : value (digits 2 (t .minute)) ≡ t .minute
+  minute-written = value-digits 2 (t .minute) (omega (arith, valid t h .minute))
+
+  pub second-written : value (digits 2 (t .second)) ≡ t .second
+  second-written = value-digits 2 (t .second) (omega (arith, valid t h .second))
+
+pub ruleset numbers-written =
+    (year-written, month-written, day-written, weekday-written, hour-written, minute-written, second-written)
 
 -- ---- deciding
 -- What a writer needs to know of its format to decide from a value: which of them it carries.

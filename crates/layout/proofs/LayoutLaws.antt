@@ -2,14 +2,15 @@
 -- Assumes nothing.
 use Prim.Native.Nat.{ℕ, zero, suc, _+_, _^_, _≤_, _<_}
 use native.Mathlib.Nat.{zero-add, add-zero}
+use native.Mathlib.Decide.{decLt}
 use native.Mathlib.Numerals.{add-one}
 use native.Mathlib.Omega.{arith}
 use mathlib.Core.Path.{_≡_, refl, sym, ap, _∙_}
 use mathlib.Core.Bool.{Bool, true, false, cond, _&&_, true≢false}
 use mathlib.Core.List.{List, [], _∷_}
 use mathlib.Core.Logic.{_⊎_, inl, inr, ⊎-elim}
-use lib.Dec.{eqb, ltb}
-use lib.ListN.{length, getD, drop, drop-of-length-le}
+use lib.Dec.{eqb, ltb, lit<}
+use lib.ListN.{length, getD, drop, drop-of-length-le, List·getD-eq-default}
 use lib.Seq.{drop-cons}
 use borrow.Author.Tests.{eq-eqb, ne-eqb, eqb-true, eqb-false, le-ltb, ltb-false}
 use Rattle.clock_time.proofs.Tests.{both}
@@ -137,6 +138,10 @@ tested-fits l s e h =
       at = λ i j. rw zero-add at (from-true true 0 l s h .1 i j);
     }
 
+-- the code's test
+pub test-fits : {l s : List ℕ} {t : Bool} → length s ≡ length l → t ≡ fitsFrom true 0 l s → t ≡ true → FitsLayout l s
+test-fits {l} {s} e test h = tested-fits l s (sym e) (sym test ∙ h)
+
 -- a string of which the test is false does not fit
 pub unfit : {l s : List ℕ} → fitsFrom true 0 l s ≡ false → FitsLayout l s → ⊥
 unfit {l} {s} e h = true≢false (sym (all-true 0 l s (λ k j. rw zero-add (h .at k j))) ∙ e)
@@ -147,24 +152,34 @@ abbrev pub allDigits : List ℕ → Bool
 allDigits [] = true
 allDigits (p ∷ l) = eqb p digit && allDigits l
 
+-- a place that is not 0 is within its layout
+pub place-within : (l : List ℕ) (at p : ℕ) → 0 < p → getD l at 0 ≡ p → at < length l
+place-within l at p some e =
+    elim (decLt at (length l)) [
+      | yes h ↦ h
+      | no h ↦
+          let outside : length l ≤ at = omega arith in
+          absurd (omega (arith, List·getD-eq-default l 0 outside))
+    ]
+
 module _ {l s : List ℕ} (h : FitsLayout l s) where
-  pub digit-place : (at : ℕ) → at < length l → eqb (getD l at 0) digit ≡ true → isDigit (getD s at 0) ≡ true
+  pub digit-place : (at : ℕ) → eqb (getD l at 0) digit ≡ true → isDigit (getD s at 0) ≡ true
   unfolding allowed
-  digit-place at room d = rw (eqb-true (getD l at 0) digit d) at (h .at at room)
+  digit-place at d =
+      let e = eqb-true (getD l at 0) digit d in
+      rw e at (h .at at (place-within l at digit (lit< tt) e))
 
   -- digits stand at digit places
-  pub run-digits : (n at : ℕ) → at + n ≤ length l → allDigits (run at n l) ≡ true
-      → firstNonDigit (run at n s) ≡ length (run at n s)
+  pub run-digits : (n at : ℕ) → allDigits (run at n l) ≡ true → firstNonDigit (run at n s) ≡ length (run at n s)
   unfolding firstNonDigit
-  run-digits zero at room d = refl
-  run-digits (suc n) at room d =
+  run-digits zero at d = refl
+  run-digits (suc n) at d =
       let w = both (eqb (getD l at 0) digit) (allDigits (run (suc at) n l)) d in
-      rw (digit-place at (omega arith) (w .0)) (ap suc (run-digits n (suc at) (omega arith) (w .1)))
+      rw (digit-place at (w .0)) (ap suc (run-digits n (suc at) (w .1)))
 
   pub length-run : (n at : ℕ) → length (run at n s) ≡ n
   length-run zero at = refl
   length-run (suc n) at = ap suc (length-run n (suc at))
 
-  pub number-below : (n at : ℕ) → at + n ≤ length l → allDigits (run at n l) ≡ true → number n at s < 10 ^ n
-  number-below n at room d =
-      rw (length-run n at) at (value-below (run at n s) (run-digits n at room d))
+  pub number-below : (n at : ℕ) → allDigits (run at n l) ≡ true → number n at s < 10 ^ n
+  number-below n at d = rw (length-run n at) at (value-below (run at n s) (run-digits n at d))

@@ -7,12 +7,13 @@ use mathlib.Core.List.{List, [], _∷_}
 use lib.Dec.{eqb, lit<}
 use lib.Bits.{bitAnd, and-block, and-mask, and-zero-l}
 use lib.ListN.{length, getD}
+use borrow.Author.Tests.{eqb-true}
 use Rattle.clock_time.proofs.Tests.{both}
 use Rattle.decimal.specs.Decimal.{valueFrom}
 use Rattle.decimal.proofs.DecimalLaws.{digit-range}
 use Rattle.layout.specs.Layout.{digit, places, FitsLayout, run, number}
 use Rattle.layout.specs.Words.{word, lowPair, threeNumbers, numbersAt}
-use Rattle.layout.proofs.LayoutLaws.{allDigits, digit-place}
+use Rattle.layout.proofs.LayoutLaws.{allDigits, place-within, digit-place}
 use Rattle.layout.proofs.WordLaws.{Bytes, enough-bytes}
 
 -- ---- the low halves of bytes
@@ -88,21 +89,21 @@ pairs-of at s h = rw (word-halves 8 at s h) (half-pairs at s)
 
 -- ---- digits
 module _ {l s : List ℕ} (h : FitsLayout l s) where
-  pub low-digit : (at : ℕ) → at + 1 ≤ length l → allDigits (run at 1 l) ≡ true → getD s at 0 % 16 ≡ number 1 at s
+  pub low-digit : (at : ℕ) → allDigits (run at 1 l) ≡ true → getD s at 0 % 16 ≡ number 1 at s
   unfolding valueFrom
-  low-digit at room d =
+  low-digit at d =
       let w = both (eqb (getD l at 0) digit) true d in
-      omega (arith, digit-range (getD s at 0) (digit-place h at (omega arith) (w .0)))
+      omega (arith, digit-range (getD s at 0) (digit-place h at (w .0)))
 
-  pub low-pair : (at : ℕ) → at + 2 ≤ length l → allDigits (run at 2 l) ≡ true → lowPair at s ≡ number 2 at s
+  pub low-pair : (at : ℕ) → allDigits (run at 2 l) ≡ true → lowPair at s ≡ number 2 at s
   unfolding lowPair valueFrom
-  low-pair at room d =
+  low-pair at d =
       let w = both (eqb (getD l at 0) digit) (allDigits (run (suc at) 1 l)) d in
       let v = both (eqb (getD l (suc at) 0) digit) true (w .1) in
       omega (
         arith,
-        digit-range (getD s at 0) (digit-place h at (omega arith) (w .0)),
-        digit-range (getD s (suc at) 0) (digit-place h (suc at) (omega arith) (v .0)),
+        digit-range (getD s at 0) (digit-place h at (w .0)),
+        digit-range (getD s (suc at) 0) (digit-place h (suc at) (v .0)),
       )
 
   -- two and three pairs of digits of a string that fits its layout
@@ -113,10 +114,16 @@ module _ {l s : List ℕ} (h : FitsLayout l s) where
   unfolding numbersAt threeNumbers
   numbers-two at room a b =
       let eight : at + 8 ≤ length s = omega (arith, h .long) in
-      rw (enough-bytes at s eight, low-pair at (omega arith) a, low-pair (at + 3) (omega arith) b)
+      rw (enough-bytes at s eight, low-pair at a, low-pair (at + 3) b)
 
-  pub numbers-fit : (at : ℕ) → at + 8 ≤ length l → allDigits (run at 2 l) ≡ true
-      → allDigits (run (at + 3) 2 l) ≡ true → allDigits (run (at + 6) 2 l) ≡ true
+  pub numbers-fit : (at : ℕ) → allDigits (run at 2 l) ≡ true → allDigits (run (at + 3) 2 l) ≡ true
+      → allDigits (run (at + 6) 2 l) ≡ true
       → numbersAt at s
       ≡ record { first = number 2 at s; second = number 2 (at + 3) s; third = number 2 (at + 6) s }
-  numbers-fit at room a b c = numbers-two at room a b ∙ rw (low-pair (at + 6) (omega arith) c)
+  numbers-fit at a b c = numbers-two at room a b ∙ rw (low-pair (at + 6) c)
+    where
+      room : at + 8 ≤ length l
+      room =
+          let w = both (eqb (getD l (at + 6) 0) digit) _ c in
+          let v = both (eqb (getD l (suc (at + 6)) 0) digit) true (w .1) in
+          omega (arith, place-within l (suc (at + 6)) digit (lit< tt) (eqb-true _ _ (v .0)))

@@ -1,15 +1,16 @@
 -- Laws of the rule for every time string, for any format. Assumes nothing.
 use Prim.Native.Nat.{ℕ}
-use mathlib.Core.Path.{_≡_, refl, ap, _∙_}
+use mathlib.Core.Path.{_≡_, refl, sym, ap, _∙_}
 use mathlib.Core.Bool.{Bool, true, false, cond, not, _||_}
 use mathlib.Core.List.{List, _∷_}
 use lib.Dec.{eqb, lit<}
 use lib.ListN.{length}
-use Rattle.clock_time.specs.Errors.{refused, Check, given, checked}
+use Rattle.clock_time.specs.Errors.{Answer, refused, Check, given, checked}
+use Rattle.clock_time.specs.declared.ClockTime.{ClockTime}
 use borrow.Author.Tests.{eq-eqb, eqb-true}
-use Rattle.layout.specs.Layout.{found, layoutError, FitsLayout}
-use Rattle.layout.proofs.LayoutLaws.{fits-found, none-found}
-use Rattle.layout.specs.Text.{Format, clockChecks, textChecks, readText}
+use Rattle.layout.specs.Layout.{fitsFrom, found, layoutError, FitsLayout}
+use Rattle.layout.proofs.LayoutLaws.{fits-found, none-found, test-fits, unfit}
+use Rattle.layout.specs.Text.{Format, clockFormat, clockChecks, textChecks, readText}
 
 -- what is left to check of a string that fits its layout
 abbrev pub laterChecks : {A : Type 0} → Format A → List ℕ → List Check
@@ -32,7 +33,7 @@ read-fitting f s h =
     )
 
 -- a string that does not fit is refused with the number of its layout
-pub read-unfitting : {A : Type 0} (f : Format A) (s : List ℕ) {n : ℕ} → n ≡ layoutError (f .layout) s
+read-unfitting : {A : Type 0} (f : Format A) (s : List ℕ) {n : ℕ} → n ≡ layoutError (f .layout) s
     → (FitsLayout (f .layout) s → ⊥) → refused n ≡ readText f s
 unfolding readText textChecks layoutError
 read-unfitting f s e d = ap refused e ∙ go
@@ -49,3 +50,21 @@ read-unfitting f s e d = ap refused e ∙ go
     go true false true x p q r t = refl
     go true false false true p q r t = refl
     go true false false false p q r t = absurd (d (none-found (f .layout) s (eqb-true _ _ p) q r t))
+
+-- a string of another length, and one of which the test of all places is false
+module _ {A : Type 0} (f : Format A) (s : List ℕ) {n : ℕ} (e : n ≡ layoutError (f .layout) s) where
+  pub read-length : (length s ≡ length (f .layout) → ⊥) → refused n ≡ readText f s
+  read-length d = read-unfitting f s e (λ h. d (sym (h .long)))
+
+  pub read-misfit : {t : Bool} → t ≡ fitsFrom true 0 (f .layout) s → t ≡ false → refused n ≡ readText f s
+  read-misfit test u = read-unfitting f s e (unfit (sym test ∙ u))
+
+-- a string that fits, of a format of clock times alone whose flags are all letters
+pub read-clock : (l : List ℕ) (fields : List ℕ → ClockTime) (text : ClockTime → List ℕ) (s : List ℕ)
+    {t : ClockTime} {a : Answer ClockTime} → FitsLayout l s → t ≡ fields s → a ≡ checked (clockChecks t false) t
+    → a ≡ readText (clockFormat l (λ s. false) fields text) s
+read-clock l fields text s h e c =
+    rw e at c ∙ sym (read-fitting (clockFormat l (λ s. false) fields text) s h)
+
+-- what a reader's code finds on its way, as the answer that its format has
+pub ruleset reading = (read-length, read-misfit, read-clock, test-fits)

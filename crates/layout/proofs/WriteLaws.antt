@@ -1,22 +1,22 @@
 -- Laws for writing by a layout: a string that fits is its layout's fixed bytes and its own bytes at the open places,
 -- and digits and letters are written as they were read. Assumes nothing.
-use Prim.Native.Nat.{ℕ, suc, _+_, _-_, _/_, _%_, _≤_, _<_}
+use Prim.Native.Nat.{ℕ, suc, _+_, _/_, _%_, _≤_, _<_}
 use Prim.Native.Char.{Char, code}
 use native.Mathlib.Nat.{zero-add, add-zero}
 use native.Mathlib.Omega.{arith}
 use mathlib.Core.Path.{_≡_, refl, sym, ap, _∙_, subst}
-use mathlib.Core.Bool.{Bool, true, false, cond, _||_, false≢true}
+use mathlib.Core.Bool.{Bool, true, false, cond, _&&_, _||_, false≢true}
 use mathlib.Core.List.{List, [], _∷_}
 use lib.Dec.{eqb, ltb}
 use lib.ListN.{length, getD, drop, drop-of-length-le}
 use lib.Seq.{drop-cons}
-use borrow.Author.Tests.{eq-eqb, eqb-true}
+use borrow.Author.Tests.{eq-eqb, ne-eqb, eqb-true, lt-ltb, le-ltb, ltb-true}
+use Rattle.clock_time.proofs.Tests.{both}
 use Rattle.decimal.specs.Decimal.{digits}
 use Rattle.decimal.proofs.DecimalLaws.{digits-value}
 use Rattle.gregorian.specs.Date.{fullYear}
-use Rattle.layout.specs.Layout.{allowed, FitsLayout, run, number}
-use Rattle.layout.specs.Text.{letter}
-use Rattle.layout.proofs.LayoutLaws.{allDigits, run-digits, length-run, number-below}
+use Rattle.layout.specs.Layout.{flagOf, allowed, FitsLayout, run, number}
+use Rattle.layout.proofs.LayoutLaws.{allDigits, place-within, run-digits, length-run, number-below}
 
 -- ---- the string from its open places: the layout gives the fixed ones
 abbrev pub restore : ℕ → List ℕ → List ℕ → List ℕ
@@ -48,31 +48,34 @@ pub restore-fits : {l s : List ℕ} → FitsLayout l s → restore 0 l s ≡ s
 restore-fits {l} {s} h = restored l s 0 (omega (arith, h .long)) (λ k j. rw zero-add (h .at k j))
 
 -- ---- digits
-year-digits : (n : ℕ) → n < 100 → digits 2 (fullYear n) ≡ digits 2 n
-unfolding digits fullYear
-year-digits n h =
-    let tens : (1970 + (n + 100 - 70) % 100) / 10 % 10 ≡ n / 10 % 10 = omega arith in
-    let ones : (1970 + (n + 100 - 70) % 100) % 10 ≡ n % 10 = omega arith in
+-- a year's last two digits
+pub year-digits : (y : ℕ) → digits 2 y ≡ digits 2 (y % 100)
+unfolding digits
+year-digits y =
+    let tens : y % 100 / 10 % 10 ≡ y / 10 % 10 = omega arith in
+    let ones : y % 100 % 10 ≡ y % 10 = omega arith in
     rw (tens, ones)
 
+full-year : (n : ℕ) → n < 100 → fullYear n % 100 ≡ n
+unfolding fullYear
+full-year n h = omega arith
+
 module _ {l s : List ℕ} (h : FitsLayout l s) where
-  pub digits-number : (n at : ℕ) → at + n ≤ length l → allDigits (run at n l) ≡ true
-      → digits n (number n at s) ≡ run at n s
-  digits-number n at room d =
-      rw (length-run h n at) at (digits-value (run at n s) (run-digits h n at room d))
+  pub digits-number : (n at : ℕ) → allDigits (run at n l) ≡ true → digits n (number n at s) ≡ run at n s
+  digits-number n at d = rw (length-run h n at) at (digits-value (run at n s) (run-digits h n at d))
 
   -- a year's last two digits are those that were read
-  pub digits-year : (at : ℕ) → at + 2 ≤ length l → allDigits (run at 2 l) ≡ true
-      → digits 2 (fullYear (number 2 at s)) ≡ run at 2 s
-  digits-year at room d = year-digits (number 2 at s) (number-below h 2 at room d) ∙ digits-number 2 at room d
+  pub digits-year : (at : ℕ) → allDigits (run at 2 l) ≡ true → digits 2 (fullYear (number 2 at s)) ≡ run at 2 s
+  digits-year at d =
+      year-digits _ ∙ rw (full-year (number 2 at s) (number-below h 2 at d)) (digits-number 2 at d)
 
 -- ---- letters
 module _ (P : ℕ → Type 0) (b : ℕ) where
   -- what holds of a blank and of the letters holds of a byte that a flag's place allows
-  pub flag-all : (c : Char) → P 32 → P (code c) → (eqb b 32 || eqb b (code c)) ≡ true → P b
-  flag-all c blank set h = go (eqb b 32) (eqb b (code c)) refl refl h
+  flag-all : (n : ℕ) → P 32 → P n → (eqb b 32 || eqb b n) ≡ true → P b
+  flag-all n blank set h = go (eqb b 32) (eqb b n) refl refl h
     where
-      go : (t u : Bool) → eqb b 32 ≡ t → eqb b (code c) ≡ u → (t || u) ≡ true → P b
+      go : (t u : Bool) → eqb b 32 ≡ t → eqb b n ≡ u → (t || u) ≡ true → P b
       go true u e f h = subst P (sym (eqb-true _ _ e)) blank
       go false true e f h = subst P (sym (eqb-true _ _ f)) set
       go false false e f h = absurd (false≢true h)
@@ -87,13 +90,28 @@ module _ (P : ℕ → Type 0) (b : ℕ) where
       go false false true e f g h = subst P (sym (eqb-true _ _ g)) second
       go false false false e f g h = absurd (false≢true h)
 
--- a flag's letter is written as it was read
-pub letter-back : (c : Char) (b : ℕ) → (eqb b 32 || eqb b (code c)) ≡ true → letter (eqb b (code c)) c ≡ b
-letter-back c b h = flag-all (λ x. letter (eqb x (code c)) c ≡ x) b c (blank (eqb 32 (code c)) refl) set h
-  where
-    blank : (t : Bool) → eqb 32 (code c) ≡ t → letter t c ≡ 32
-    blank true e = sym (eqb-true 32 (code c) e)
-    blank false e = refl
+flag-place : (n b : ℕ) → n < 256 → allowed (flagOf n) b ≡ (eqb b 32 || eqb b n)
+unfolding allowed
+flag-place n b h =
+    let rest : (512 + n) % 256 ≡ n = omega arith in
+    simp (
+      le-ltb (512 + n) 256 (omega arith),
+      ne-eqb (512 + n) 256 (λ e. omega arith),
+      ne-eqb (512 + n) 257 (λ e. omega arith),
+      lt-ltb (512 + n) 65536 (omega arith),
+      rest,
+    )
 
-    set : letter (eqb (code c) (code c)) c ≡ code c
-    set = rw (eq-eqb (code c) (code c) refl)
+-- a flag's letter is written as it was read
+pub letter-back : {l s : List ℕ} → FitsLayout l s → (at n : ℕ) → (ltb n 256 && eqb (getD l at 0) (flagOf n)) ≡ true
+    → cond (eqb (getD s at 0) n) n 32 ≡ getD s at 0
+letter-back {l} {s} h at n e =
+    let w = both (ltb n 256) (eqb (getD l at 0) (flagOf n)) e in
+    let p = eqb-true (getD l at 0) (flagOf n) (w .1) in
+    let fits = rw p at (h .at at (place-within l at (flagOf n) (omega arith) p)) in
+    flag-all (λ x. cond (eqb x n) n 32 ≡ x) (getD s at 0) n (blank (eqb 32 n) refl) (rw (eq-eqb n n refl))
+    (sym (flag-place n (getD s at 0) (ltb-true n 256 (w .0))) ∙ fits)
+  where
+    blank : (t : Bool) → eqb 32 n ≡ t → cond t n 32 ≡ 32
+    blank true q = sym (eqb-true 32 n q)
+    blank false q = refl

@@ -1,9 +1,10 @@
 -- A GPS string that is accepted is the text of its fields. Assumes nothing.
 use Prim.Native.Nat.{ℕ}
+use Prim.Native.Char.{code}
 use mathlib.Core.Path.{_≡_, refl}
 use mathlib.Core.Bool.{Bool, true, false, not, Bool·beq, true≢false}
 use mathlib.Core.List.{List, _∷_, _++_}
-use lib.Dec.{eqb, lit<, lit≤}
+use lib.Dec.{eqb}
 use lib.ListN.{getD}
 use lib.IntN.{pos}
 use Rattle.clock_time.specs.Same.{eqℤ, sameTime, samePosition}
@@ -31,24 +32,7 @@ pzfAt s =
 
 pzf-back : {s : List ℕ} → FitsLayout gpsLayout s → pzfText (clockOf s) ≡ pzfAt s
 unfolding pzfText clockOf gpsLayout ascii allowed
-pzf-back {s} fit =
-    let at = fit .at in
-    let d = digits-number fit in
-    simp (
-      d 2 1 (lit≤ tt) refl,
-      d 2 4 (lit≤ tt) refl,
-      digits-year fit 7 (lit≤ tt) refl,
-      d 1 11 (lit≤ tt) refl,
-      d 2 14 (lit≤ tt) refl,
-      d 2 17 (lit≤ tt) refl,
-      d 2 20 (lit≤ tt) refl,
-      letter-back "#" (getD s 32 0) (at 32 (lit< tt)),
-      letter-back "*" (getD s 33 0) (at 33 (lit< tt)),
-      letter-back "S" (getD s 34 0) (at 34 (lit< tt)),
-      letter-back "!" (getD s 35 0) (at 35 (lit< tt)),
-      letter-back "A" (getD s 36 0) (at 36 (lit< tt)),
-      letter-back "R" (getD s 37 0) (at 37 (lit< tt)),
-    )
+pzf-back h = simp (digits-number h 2, digits-number h 1, digits-year h, letter-back h)
 
 pub agree : (a b : Bool) → not (Bool·beq a b) ≡ false → a ≡ b
 agree true true h = refl
@@ -60,7 +44,7 @@ leap-back : {s : List ℕ} → FitsLayout gpsLayout s → leapMismatch s ≡ fal
     → letter (eqb (number 2 20 s) 60) "L" ≡ getD s 38 0
 unfolding leapMismatch gpsLayout ascii allowed
 leap-back {s} fit h =
-    rw (← (agree (has "L" 38 s) (eqb (number 2 20 s) 60) h)) (letter-back "L" (getD s 38 0) (fit .at 38 (lit< tt)))
+    rw (← (agree (has "L" 38 s) (eqb (number 2 20 s) 60) h)) (letter-back fit 38 (code "L") refl)
 
 pub gps-back : (s : List ℕ) → PassesText gps s → gpsText (gpsFields s) ≡ s
 unfolding gpsText lineWith gpsFields gps clockOf gpsLayout ascii

@@ -3,16 +3,16 @@ use Prim.Native.Nat.{ℕ}
 use mathlib.Core.Path.{_≡_, refl}
 use mathlib.Core.Bool.{Bool, true, false, _&&_}
 use mathlib.Core.List.{List}
-use lib.Dec.{eqb}
 use Rattle.clock_time.specs.Writing.{writing}
 use Rattle.clock_time.proofs.SameLaws.{beq-refl}
 use Rattle.calendar.specs.UnixTime.{isValid}
 use Rattle.calendar.proofs.ValidLaws.{valid}
 use Rattle.decimal.specs.Decimal.{digits}
+use Rattle.decimal.proofs.DecimalLaws.{digit-written}
 use Rattle.layout.specs.Ascii.{ascii}
 use Rattle.layout.specs.Layout.{allowed, fitsFrom, FitsLayout, number}
 use Rattle.layout.proofs.LayoutLaws.{tested-fits}
-use Rattle.layout.proofs.DecideLaws.{digit-fits, letter-fits, letter-read, written, Decides}
+use Rattle.layout.proofs.DecideLaws.{letter-fits, letter-read, numbers-written, Decides}
 use Rattle.layout.proofs.DecideLaws as text
 use Rattle.gps_position.specs.Aligned.{padded, aligned}
 use Rattle.gps_position.specs.Position.{angleBytes, positionText, positionCarried}
@@ -32,19 +32,7 @@ gpsCarries g = positionCarried (g .position)
 text-fits : (g : GpsTime) → FitsLayout gpsLayout (gpsText g)
 unfolding
     gpsLayout gpsText lineWith pzfText offsetText positionText angleBytes aligned padded ascii digits fitsFrom allowed
-text-fits g =
-    let t = g .time in
-    tested-fits gpsLayout (gpsText g) refl
-    (simp (
-      digit-fits,
-      letter-fits (t .unsynchronised) "#",
-      letter-fits (t .unverified) "*",
-      letter-fits (t .«summer_time») "S",
-      letter-fits (t .«dst_change_announced») "!",
-      letter-fits (t .«leap_second_announced») "A",
-      letter-fits (t .«alternate_antenna») "R",
-      letter-fits (eqb (t .second) 60) "L",
-    ))
+text-fits g = tested-fits gpsLayout (gpsText g) refl (simp (digit-written, letter-fits))
 
 -- ---- the parts are read as they were written
 module _ (g : GpsTime) (h : isValid (g .time) ≡ true) where
@@ -54,32 +42,11 @@ module _ (g : GpsTime) (h : isValid (g .time) ≡ true) where
 
   clock-part : clockOf (gpsText g) ≡ g .time
   unfolding clockOf gpsText lineWith pzfText offsetText ascii digits
-  clock-part =
-      let t = g .time in
-      let w = written t h in
-      λ i.
-      record {
-        year = w .year i;
-        month = w .month i;
-        day = w .day i;
-        weekday = w .weekday i;
-        hour = w .hour i;
-        minute = w .minute i;
-        second = w .second i;
-        «utc_offset» = offset-part .same i;
-        unsynchronised = letter-read "#" refl (t .unsynchronised) i;
-        unverified = letter-read "*" refl (t .unverified) i;
-        «summer_time» = letter-read "S" refl (t .«summer_time») i;
-        «dst_change_announced» = letter-read "!" refl (t .«dst_change_announced») i;
-        «leap_second_announced» = letter-read "A" refl (t .«leap_second_announced») i;
-        «alternate_antenna» = letter-read "R" refl (t .«alternate_antenna») i;
-      }
+  clock-part = simp (numbers-written, offset-part .same, letter-read)
 
   leap-part : leapMismatch (gpsText g) ≡ false
   unfolding leapMismatch gpsText lineWith pzfText offsetText ascii digits
-  leap-part =
-      let last = eqb (g .time .second) 60 in
-      rw (written (g .time) h .second, letter-read "L" refl last, beq-refl last)
+  leap-part = simp (numbers-written, letter-read, beq-refl)
 
 position-part : (g : GpsTime) → gpsCarries g ≡ true → PositionRead (g .position) (gpsText g)
 unfolding gpsText lineWith pzfText offsetText positionText angleBytes aligned padded ascii digits

@@ -4,7 +4,7 @@ use native.Mathlib.Omega.{arith}
 use mathlib.Core.Path.{_≡_, refl, ap, _∙_}
 use mathlib.Core.Bool.{true, false}
 use mathlib.Core.List.{List, _∷_, _++_}
-use lib.Dec.{leb, lit≤}
+use lib.Dec.{leb}
 use lib.ListN.{getD}
 use lib.IntN.{ℤ, natAbs}
 use borrow.Author.Tests.{leb-true, le-leb, not-false}
@@ -22,7 +22,7 @@ use Rattle.meinberg_gps.specs.Gps.{gpsLayout, offsetSize, offsetFault, o
 
 pub offset-small : {s : List ℕ} → FitsLayout gpsLayout s → offsetSize s < 6040
 unfolding gpsLayout ascii
-offset-small h = omega (arith, number-below h 2 25 (lit≤ tt) refl, number-below h 2 28 (lit≤ tt) refl)
+offset-small h = omega (arith, number-below h 2 25 refl, number-below h 2 28 refl)
 
 -- ---- an offset without fault
 pub record Faultless (s : List ℕ) : Type 0 where
@@ -57,8 +57,8 @@ offset-back {s} fit h =
       signed-size (has "-" 24 s) (offsetSize s),
       hours,
       minutes,
-      digits-number fit 2 25 (lit≤ tt) refl,
-      digits-number fit 2 28 (lit≤ tt) refl,
+      digits-number fit 2 25 refl,
+      digits-number fit 2 28 refl,
     )
 
 -- ---- an offset in range is read as it was written

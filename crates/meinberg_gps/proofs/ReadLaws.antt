@@ -37,9 +37,9 @@ abbrev pub afterPosition : List ℕ → Answer Position → Answer GpsTime
 afterPosition s (accepted p) = readClock s p
 afterPosition s (refused k) = refused k
 
-pub read-clock : (s : List ℕ) (p : Position) {r : Answer ClockTime}
-    → r ≡ checked (clockChecks (clockOf s) (leapMismatch s)) (clockOf s) → placed p r ≡ readClock s p
-read-clock s p h = rw h (checked-placed p (clockChecks (clockOf s) (leapMismatch s)) (clockOf s))
+pub read-clock : (s : List ℕ) (p : Position) {t : ClockTime} {m : Bool} {r : Answer ClockTime} → t ≡ clockOf s
+    → m ≡ leapMismatch s → r ≡ checked (clockChecks t m) t → placed p r ≡ readClock s p
+read-clock s p e f h = rw (h, e, f) (checked-placed p (clockChecks (clockOf s) (leapMismatch s)) (clockOf s))
 
 module _ {s : List ℕ} (fit : FitsLayout gpsLayout s) where
   read-fits : readGps s ≡ checked (laterChecks gps s) (gpsFields s)

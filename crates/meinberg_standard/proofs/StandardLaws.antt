@@ -6,7 +6,7 @@ use native.Mathlib.Omega.{arith}
 use mathlib.Core.Path.{_≡_, refl, sym, _∙_}
 use mathlib.Core.Bool.{Bool, true, false, cond, not, _&&_, _||_, false≢true}
 use mathlib.Core.List.{List}
-use lib.Dec.{eqb, lit<, lit≤}
+use lib.Dec.{eqb, lit<}
 use lib.ListN.{getD}
 use lib.IntN.{ℤ, pos}
 use borrow.Author.Tests.{eqb-true, not-true}
@@ -17,10 +17,11 @@ use Rattle.clock_time.proofs.Tests.{both}
 use Rattle.calendar.specs.UnixTime.{isValid}
 use Rattle.calendar.proofs.ValidLaws.{zone-in-range}
 use Rattle.decimal.specs.Decimal.{digits}
+use Rattle.decimal.proofs.DecimalLaws.{digit-written}
 use Rattle.layout.specs.Ascii.{ascii}
 use Rattle.layout.specs.Layout.{allowed, fitsFrom, FitsLayout, number}
 use Rattle.layout.proofs.LayoutLaws.{tested-fits}
-use Rattle.layout.proofs.DecideLaws.{digit-fits, letter-fits, letter-read, written, DecidesClock}
+use Rattle.layout.proofs.DecideLaws.{letter-fits, letter-read, numbers-written, DecidesClock}
 use Rattle.layout.proofs.WriteLaws.{restore-fits, digits-number, digits-year, letter-back, either-all}
 use Rattle.meinberg_standard.specs.Standard.{standardLayout, standardZone, standardFields}
 use Rattle.meinberg_standard.specs.Standard.{zoneLetter, announcedLetter, standardText, standardCarries}
@@ -39,20 +40,13 @@ announced-back b h = either-all
 pub standard-back : (s : List ℕ) → FitsLayout standardLayout s → standardText (standardFields s) ≡ s
 unfolding standardText standardFields standardLayout ascii allowed
 standard-back s h =
-    let at = h .at in
-    let d = digits-number h in
     simp (
-      d 2 3 (lit≤ tt) refl,
-      d 2 6 (lit≤ tt) refl,
-      digits-year h 9 (lit≤ tt) refl,
-      d 1 14 (lit≤ tt) refl,
-      d 2 18 (lit≤ tt) refl,
-      d 2 21 (lit≤ tt) refl,
-      d 2 24 (lit≤ tt) refl,
-      letter-back "#" (getD s 27 0) (at 27 (lit< tt)),
-      letter-back "*" (getD s 28 0) (at 28 (lit< tt)),
-      zone-back (getD s 29 0) (at 29 (lit< tt)),
-      announced-back (getD s 30 0) (at 30 (lit< tt)),
+      digits-number h 2,
+      digits-number h 1,
+      digits-year h,
+      letter-back h,
+      zone-back (getD s 29 0) (h .at 29 (lit< tt)),
+      announced-back (getD s 30 0) (h .at 30 (lit< tt)),
     )
     (restore-fits h)
 
@@ -78,14 +72,7 @@ announced-fits false false = refl
 text-fits : (t : ClockTime) → FitsLayout standardLayout (standardText t)
 unfolding standardLayout standardText ascii digits fitsFrom allowed
 text-fits t =
-    tested-fits standardLayout (standardText t) refl
-    (simp (
-      digit-fits,
-      letter-fits (t .unsynchronised) "#",
-      letter-fits (t .unverified) "*",
-      zone-fits (t .«utc_offset») (t .«summer_time»),
-      announced-fits (t .«dst_change_announced») (t .«leap_second_announced»),
-    ))
+    tested-fits standardLayout (standardText t) refl (simp (digit-written, letter-fits, zone-fits, announced-fits))
 
 -- what is read is carried
 zone-carried : (x : ℕ) → eqℤ (standardZone (zoneLetter (standardZone x) (eqb x (code "S")))) (standardZone x) ≡ true
@@ -114,7 +101,7 @@ not-both x = go (eqb x (code "!")) (eqb x (code "A")) refl refl
 
 fields-carried : (s : List ℕ) → standardCarries (standardFields s) ≡ true
 unfolding standardCarries standardFields
-fields-carried s = simp (zone-carried (getD s 29 0), not-both (getD s 30 0))
+fields-carried s = simp (zone-carried, not-both)
 
 -- the letters are read as they were written
 summer-read : (z : ℤ) (summer : Bool) → eqb (zoneLetter z summer) (code "S") ≡ summer
@@ -142,26 +129,19 @@ leap-read false false h = refl
 text-says : (t : ClockTime) → isValid t ≡ true → standardCarries t ≡ true → standardFields (standardText t) ≡ t
 unfolding standardCarries standardFields standardText ascii digits sameTime sameFields
 text-says t h k =
-    let w = written t h in
     let zone = eqℤ (standardZone (zoneLetter (t .«utc_offset») (t .«summer_time»))) (t .«utc_offset») in
     let alone = not (t .«dst_change_announced» && t .«leap_second_announced») in
     let v = both (zone && alone) (not (t .«alternate_antenna»)) k in
     let u = both zone alone (v .0) in
     sameTime-true _ t
     (simp (
-      w .year,
-      w .month,
-      w .day,
-      w .weekday,
-      w .hour,
-      w .minute,
-      w .second,
+      numbers-written,
+      letter-read,
       eqℤ-true _ _ (u .0),
-      letter-read "#" refl (t .unsynchronised),
-      letter-read "*" refl (t .unverified),
-      summer-read (t .«utc_offset») (t .«summer_time»),
-      change-read (t .«dst_change_announced») (t .«leap_second_announced»),
-      leap-read (t .«dst_change_announced») (t .«leap_second_announced») (u .1),
+      summer-read,
+      change-read,
+      leap-read,
+      u .1,
       not-true (t .«alternate_antenna») (v .1),
       eqb-refl,
       beq-refl,

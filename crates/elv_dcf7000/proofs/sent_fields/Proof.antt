@@ -1,7 +1,5 @@
 -- `elv_dcf7000::sent_fields` meets its contract. Assumes nothing.
 use borrow.Author.Needs.{needs, sfits-of}
-use mathlib.Core.Path.{refl}
-use lib.Dec.{lit≤}
 use mir.Syntax.{w16}
 use mir.Val.{SFits}
 use mir.Facts.{toZ-ofZ}
@@ -28,8 +26,7 @@ returns c =
       time .numbers-at2 .ensures,
       date .numbers-at .ensures,
       flags-read h (start .pre .1 .1),
-      numbers-fit h 0 (lit≤ tt) refl refl refl,
-      numbers-fit h 9 (lit≤ tt) refl refl refl,
+      numbers-fit h,
     ))
 
 pub sent-fields-spec : {M : Type 1} → statement M

@@ -10,12 +10,10 @@ use Rattle.elv_dcf7000.proofs.with_weekday.Tie as tie
 offset-fits : (c : tie.Start) → SFits w16 (c .args .t .«utc_offset»)
 offset-fits c = search sfits-of
 
-returns : tie.Need-returns
-unfolding withWeekday
-returns c =
-    let day = c .before in
-    rw (toZ-ofZ (offset-fits (day .before))) (simp (day .weekday-or-zero .ensures))
-
 pub with-weekday-spec : {M : Type 1} → statement M
+unfolding withWeekday
 with-weekday-spec =
-    tie.close (tie.spec (λ c κs. search needs) returns)
+    tie.close
+    (tie.spec
+    (λ c κs. search needs)
+    (λ c. simp (toZ-ofZ (offset-fits (c .before .before)), c .before .weekday-or-zero .ensures)))

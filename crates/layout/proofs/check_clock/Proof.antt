@@ -1,9 +1,12 @@
 -- `layout::check_clock` meets its contract. Assumes nothing.
-use borrow.Author.Needs.{needs}
+use borrow.Author.Needs.{needs, sfits-of}
+use mathlib.Core.Path.{_≡_, sym, _∙_}
+use mathlib.Core.Bool.{cond, not, _&&_}
+use lib.Dec.{leb}
 use mir.Syntax.{w16}
 use mir.Val.{SFits}
 use mir.Facts.{toZ-ofZ}
-use borrow.Author.Needs.{sfits-of}
+use Rattle.clock_time.specs.Errors.{accepted, refused, checked}
 use Rattle.layout.specs.Text.{clockChecks}
 use Rattle.layout.proofs.check_clock.Statement.{statement}
 use Rattle.layout.proofs.check_clock.Tie as tie
@@ -22,21 +25,21 @@ returns-2 c =
     let time = rw (toZ-ofZ (offset-fits (d .before .before))) at (c .before .time-exists .ensures) in
     simp (← (d .before .date-exists .ensures), d .if1 .left, ← time, c .if2 .taken)
 
-returns-3 : tie.Need-returns-3
+-- the date and the time hold, and the weekday decides
+dated : (c : tie.Else2) → let x = c .before .before .before .before .before .args in
+    checked (clockChecks (x .t) (x .mismatch)) (x .t)
+    ≡ cond (not (leb 1 (x .t .weekday) && leb (x .t .weekday) 7)) (refused 7) (accepted (x .t))
 unfolding clockChecks
-returns-3 c =
-    let t = c .before .before .before in
-    let d = t .before .before .before in
-    let time = rw (toZ-ofZ (offset-fits (d .before .before))) at (t .before .time-exists .ensures) in
-    simp (← (d .before .date-exists .ensures), d .if1 .left, ← time, t .if2 .left, c .if3 .taken)
+dated c =
+    let d = c .before .before .before in
+    let time = rw (toZ-ofZ (offset-fits (d .before .before))) at (c .before .time-exists .ensures) in
+    simp (← (d .before .date-exists .ensures), d .if1 .left, ← time, c .if2 .left)
+
+returns-3 : tie.Need-returns-3
+returns-3 c = sym (dated (c .before .before .before) ∙ simp (c .if3 .taken))
 
 returns-4 : tie.Need-returns-4
-unfolding clockChecks
-returns-4 c =
-    let t = c .before .before .before in
-    let d = t .before .before .before in
-    let time = rw (toZ-ofZ (offset-fits (d .before .before))) at (t .before .time-exists .ensures) in
-    simp (← (d .before .date-exists .ensures), d .if1 .left, ← time, t .if2 .left, c .if3 .left)
+returns-4 c = sym (dated (c .before .before .before) ∙ simp (c .if3 .left))
 
 pub check-clock-spec : {M : Type 1} → statement M
 check-clock-spec =

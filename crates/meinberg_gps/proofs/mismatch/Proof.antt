@@ -1,7 +1,5 @@
 -- `meinberg_gps::mismatch` meets its contract. Assumes nothing.
 use borrow.Author.Needs.{needs}
-use mathlib.Core.Path.{refl}
-use lib.Dec.{lit≤}
 use Rattle.layout.specs.Ascii.{ascii}
 use Rattle.layout.proofs.PairLaws.{numbers-fit}
 use Rattle.meinberg_gps.specs.Gps.{gpsLayout, leapMismatch}
@@ -12,7 +10,7 @@ returns : tie.Need-returns
 unfolding leapMismatch gpsLayout ascii
 returns c =
     let time = c .before .before in
-    simp (time .numbers-at .ensures, numbers-fit (time .before .before .pre .1) 14 (lit≤ tt) refl refl refl)
+    simp (time .numbers-at .ensures, numbers-fit (time .before .before .pre .1))
 
 pub mismatch-spec : {M : Type 1} → statement M
 mismatch-spec = tie.close (tie.spec (λ c κs. search needs) (λ c. search needs) returns)

@@ -1,27 +1,24 @@
 -- `meinberg_gps::read_clock` meets its contract. Assumes nothing.
 use borrow.Author.Needs.{needs}
+use mathlib.Core.Path.{_≡_}
 use denote.Ref.{now}
-use Rattle.meinberg_gps.proofs.ReadLaws.{read-clock}
+use Rattle.layout.specs.Text.{readAnswer}
+use Rattle.meinberg_gps.specs.Gps.{readClock}
+use Rattle.meinberg_gps.proofs.ReadLaws.{placed, read-clock}
 use Rattle.meinberg_gps.proofs.read_clock.Statement.{statement}
 use Rattle.meinberg_gps.proofs.read_clock.Tie as tie
 
+-- the answer, whichever it is
+answer : (c : tie.After-check-clock) → let x = c .before .before .before .before .args in
+    placed (x .position) (readAnswer (c .check-clock .result)) ≡ readClock (now (x .s)) (x .position)
+answer c =
+    read-clock _ _ (c .before .before .clock .ensures) (c .before .mismatch .ensures) (c .check-clock .ensures)
+
 returns : tie.Need-returns
-returns c =
-    let k = c .before .before .before in
-    let m = k .before in
-    let x = m .before .before .before .args in
-    let known = c .before .time .given .1 in
-    let e = rw (known, m .mismatch .ensures, m .before .clock .ensures) at (k .check-clock .ensures) in
-    read-clock (now (x .s)) (x .position) e
+returns c = rw (c .before .time .given .1) at (answer (c .before .before .before))
 
 returns-2 : tie.Need-returns-2
-returns-2 c =
-    let k = c .before .before .before in
-    let m = k .before in
-    let x = m .before .before .before .args in
-    let known = c .before .e .given .1 in
-    let e = rw (known, m .mismatch .ensures, m .before .clock .ensures) at (k .check-clock .ensures) in
-    read-clock (now (x .s)) (x .position) e
+returns-2 c = rw (c .before .e .given .1) at (answer (c .before .before .before))
 
 pub read-clock-spec : {M : Type 1} → statement M
 read-clock-spec =

@@ -5,10 +5,6 @@ use Rattle.meinberg_pzf.specs.Pzf.{pzfLayout}
 use Rattle.meinberg_pzf.proofs.first_error.Statement.{statement}
 use Rattle.meinberg_pzf.proofs.first_error.Tie as tie
 
-returns : tie.Need-returns
-unfolding ascii pzfLayout
-returns c = c .layout-error .ensures
-
 pub first-error-spec : {M : Type 1} → statement M
-first-error-spec =
-    tie.close (tie.spec (λ c. search needs) (λ c κs. search needs) returns)
+unfolding ascii pzfLayout
+first-error-spec = tie.close (tie.spec (λ c. search needs) (λ c κs. search needs) (λ c. c .layout-error .ensures))

@@ -1,7 +1,5 @@
 -- `meinberg_standard::fields` meets its contract. Assumes nothing.
 use borrow.Author.Needs.{needs, sfits-of}
-use mathlib.Core.Path.{refl}
-use lib.Dec.{lit≤}
 use mir.Syntax.{w16}
 use mir.Val.{SFits}
 use mir.Facts.{toZ-ofZ}
@@ -26,9 +24,8 @@ returns c =
       y .full-year .ensures,
       time .numbers-at2 .ensures,
       date .numbers-at .ensures,
-      numbers-fit h 3 (lit≤ tt) refl refl refl,
-      numbers-fit h 18 (lit≤ tt) refl refl refl,
-      low-digit h 14 (lit≤ tt) refl,
+      numbers-fit h,
+      low-digit h,
     ))
 
 pub fields-spec : {M : Type 1} → statement M

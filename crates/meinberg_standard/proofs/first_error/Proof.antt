@@ -5,9 +5,6 @@ use Rattle.meinberg_standard.specs.Standard.{standardLayout}
 use Rattle.meinberg_standard.proofs.first_error.Statement.{statement}
 use Rattle.meinberg_standard.proofs.first_error.Tie as tie
 
-returns : tie.Need-returns
-unfolding ascii standardLayout
-returns c = c .layout-error .ensures
-
 pub first-error-spec : {M : Type 1} → statement M
-first-error-spec = tie.close (tie.spec (λ c. search needs) (λ c κs. search needs) returns)
+unfolding ascii standardLayout
+first-error-spec = tie.close (tie.spec (λ c. search needs) (λ c κs. search needs) (λ c. c .layout-error .ensures))

@@ -5,14 +5,7 @@ use Rattle.gps_position.specs.Aligned.{blankOr}
 use Rattle.gps_position.proofs.text.digit_or_blank.Statement.{statement}
 use Rattle.gps_position.proofs.text.digit_or_blank.Tie as tie
 
-returns : tie.Need-returns
-unfolding blankOr
-returns c = search tests
-
-returns-2 : tie.Need-returns-2
-unfolding blankOr
-returns-2 c = search tests
-
 pub digit-or-blank-spec : {M : Type 1} → statement M
+unfolding blankOr
 digit-or-blank-spec =
-    tie.close (tie.spec returns (λ c. search needs) (λ c. search needs) returns-2)
+    tie.close (tie.spec (λ c. search tests) (λ c. search needs) (λ c. search needs) (λ c. search tests))

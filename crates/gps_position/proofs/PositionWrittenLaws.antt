@@ -2,7 +2,7 @@
 use Prim.Native.Nat.{ℕ, _*_, _/_, _^_, _≤_, _<_}
 use Prim.Native.Char.{code}
 use native.Mathlib.Omega.{arith}
-use mathlib.Core.Path.{_≡_, refl, ap}
+use mathlib.Core.Path.{_≡_, refl}
 use mathlib.Core.Bool.{true, false, _&&_}
 use mathlib.Core.List.{List, _++_}
 use lib.Dec.{leb, eqb, lit<}
@@ -53,34 +53,26 @@ angle-read a some room differ z small s h =
 
 -- ---- the position
 -- the code's bytes, one by one: latitude is written with a third place before its point, which is left out
-pub position-parts : (p : Position) {n e h : List ℕ} → n ≡ angleBytes 3 (code "N") (code "S") (p .latitude)
-    → e ≡ angleText longitude (p .longitude) → h ≡ aligned 4 (p .height)
+pub position-parts : (p : Position) {x y : ℤ} {n e h : List ℕ} → n ≡ angleBytes 3 (code "N") (code "S") x
+    → e ≡ angleText longitude y → h ≡ aligned 4 (p .height) → x ≡ p .latitude → y ≡ p .longitude
     → run 1 8 n ++ ascii " " ++ run 0 9 e ++ ascii " " ++ run 0 4 h ≡ positionText p
 unfolding positionText angleBytes aligned padded digits ascii
-position-parts p a b c = rw (a, b, c)
+position-parts p a b c north east = rw (a, b, c, north, east)
 
 module _ (p : Position) (s : List ℕ) (e : run 41 23 s ≡ positionText p) where
   latitude-holds : Holds latitude (p .latitude) s
   unfolding positionText angleBytes aligned padded digits ascii
   latitude-holds =
-      record {
-        whole = ap (λ (t : List ℕ). run 0 2 t) e;
-        after = ap (λ (t : List ℕ). run 3 4 t) e;
-        letter = ap (λ (t : List ℕ). getD t 7 0) e;
-      }
+      record { whole = λ i. run 0 2 (e i); after = λ i. run 3 4 (e i); letter = λ i. getD (e i) 7 0 }
 
   longitude-holds : Holds longitude (p .longitude) s
   unfolding positionText angleBytes aligned padded digits ascii
   longitude-holds =
-      record {
-        whole = ap (λ (t : List ℕ). run 9 3 t) e;
-        after = ap (λ (t : List ℕ). run 13 4 t) e;
-        letter = ap (λ (t : List ℕ). getD t 17 0) e;
-      }
+      record { whole = λ i. run 9 3 (e i); after = λ i. run 13 4 (e i); letter = λ i. getD (e i) 17 0 }
 
   height-holds : run 60 4 s ≡ aligned 4 (p .height)
   unfolding positionText angleBytes aligned padded digits ascii
-  height-holds = ap (λ (t : List ℕ). run 19 4 t) e
+  height-holds i = run 19 4 (e i)
 
 pub record PositionRead (p : Position) (s : List ℕ) : Type 0 where
   pub faultless : positionFault s ≡ false

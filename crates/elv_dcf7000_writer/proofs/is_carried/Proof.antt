@@ -14,11 +14,10 @@ returns : tie.Need-returns
 unfolding elvCarries
 returns c =
     let day = c .before .before .before .before in
-    let same = day .before in
-    let zone = same .before .before in
+    let zone = day .before .before .before in
     let said : SFits w16 (zone .offset-of .result) = search sfits-of in
-    let same-is = rw (toZ-ofZ (offset-fits (zone .before)), toZ-ofZ said) at (same .same-offset .ensures) in
-    simp (day .weekday-or-zero .ensures, same-is, zone .offset-of .ensures)
+    rw (day .before .same-offset .ensures, toZ-ofZ said)
+    (simp (toZ-ofZ (offset-fits (zone .before)), day .weekday-or-zero .ensures, zone .offset-of .ensures))
 
 pub is-carried-spec : {M : Type 1} → statement M
 is-carried-spec =

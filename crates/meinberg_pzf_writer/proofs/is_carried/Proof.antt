@@ -15,11 +15,9 @@ unfolding pzfCarries
 returns c =
     let zone = c .before .before in
     let utc = zone .before in
-    let given = toZ-ofZ (offset-fits (utc .before .before)) in
     let said : SFits w16 (zone .offset-of .result) = search sfits-of in
-    let utc-is = rw given at (utc .same-offset .ensures) in
-    let same-is = rw (given, toZ-ofZ said) at (c .same-offset2 .ensures) in
-    simp (same-is, zone .offset-of .ensures, utc-is)
+    rw (c .same-offset2 .ensures, toZ-ofZ said)
+    (simp (toZ-ofZ (offset-fits (utc .before .before)), zone .offset-of .ensures, utc .same-offset .ensures))
 
 pub is-carried-spec : {M : Type 1} → statement M
 is-carried-spec =

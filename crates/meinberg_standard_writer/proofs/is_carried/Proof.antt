@@ -16,11 +16,9 @@ returns c =
     let same = c .before .before in
     let zone = same .before .before in
     let letter = zone .before in
-    let given = toZ-ofZ (offset-fits (letter .before .before)) in
     let read : SFits w16 (zone .zone-offset .result) = search sfits-of in
-    let letter-is = rw given at (letter .zone-letter .ensures) in
-    let same-is = rw (given, toZ-ofZ read) at (same .same-offset .ensures) in
-    simp (same-is, zone .zone-offset .ensures, letter-is)
+    rw (same .same-offset .ensures, toZ-ofZ read)
+    (simp (toZ-ofZ (offset-fits (letter .before .before)), zone .zone-offset .ensures, letter .zone-letter .ensures))
 
 pub is-carried-spec : {M : Type 1} → statement M
 is-carried-spec =

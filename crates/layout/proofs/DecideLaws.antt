@@ -7,7 +7,7 @@ use mathlib.Core.Bool.{Bool, true, false, cond, _&&_, _||_, or-true}
 use mathlib.Core.List.{List}
 use lib.Dec.{eqb}
 use Rattle.clock_time.specs.Errors.{accepted}
-use Rattle.clock_time.specs.Writing.{writing, writeBack}
+use Rattle.clock_time.specs.Writing.{Outcome, writing, writeBack}
 use Rattle.clock_time.specs.declared.ClockTime.{ClockTime}
 use Rattle.clock_time.proofs.BackLaws.{decided}
 use Rattle.clock_time.proofs.SameLaws.{eqb-refl, sameTime-refl, sameTime-true}
@@ -116,11 +116,12 @@ module _ {A : Type 0} (f : Format A) (carries : A → Bool) (d : Decides f carri
 
   -- the writer's code: the two tests, and the bytes of the text
   pub writes : ((a : A) → f .same a a ≡ true) → ((a b : A) → f .same a b ≡ true → a ≡ b)
-      → (a : A) {t u : Bool} {bytes : List ℕ} → t ≡ isValid (f .clock a) → u ≡ carries a → bytes ≡ f .text a
-      → (buffer : List ℕ) → writing (t && u) bytes buffer ≡ writeText f a buffer
+      → (a : A) (buffer : List ℕ) {t u : Bool} {bytes : List ℕ} {o : Outcome} → o ≡ writing (t && u) bytes buffer
+      → t ≡ isValid (f .clock a) → u ≡ carries a → bytes ≡ f .text a → o ≡ writeText f a buffer
   unfolding writeText writeBack
-  writes same-refl same-true a h k e buffer =
-      rw (
+  writes same-refl same-true a buffer w h k e =
+      w
+      ∙ rw (
         h,
         k,
         e,
@@ -163,7 +164,8 @@ module _
         → isValid t ≡ true
     clock-valid = valid-answer (clockFormat layout fault fields text) carries clock-decides
 
-    pub clock-writes : (t : ClockTime) {u v : Bool} {bytes : List ℕ} → u ≡ isValid t → v ≡ carries t → bytes ≡ text t
-        → (buffer : List ℕ) → writing (u && v) bytes buffer ≡ writeText (clockFormat layout fault fields text) t buffer
+    pub clock-writes : (t : ClockTime) (buffer : List ℕ) {u v : Bool} {bytes : List ℕ} {o : Outcome}
+        → o ≡ writing (u && v) bytes buffer → u ≡ isValid t → v ≡ carries t → bytes ≡ text t
+        → o ≡ writeText (clockFormat layout fault fields text) t buffer
     clock-writes =
         writes (clockFormat layout fault fields text) carries clock-decides sameTime-refl sameTime-true

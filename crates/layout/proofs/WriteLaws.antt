@@ -10,12 +10,13 @@ use mathlib.Core.List.{List, [], _∷_}
 use lib.Dec.{eqb, ltb}
 use lib.ListN.{length, getD, drop, drop-of-length-le}
 use lib.Seq.{drop-cons}
-use borrow.Author.Tests.{eq-eqb, ne-eqb, eqb-true, lt-ltb, le-ltb, ltb-true}
+use borrow.Author.Tests.{eq-eqb, eqb-true, ltb-true}
 use Rattle.clock_time.proofs.Tests.{both}
 use Rattle.decimal.specs.Decimal.{digits}
 use Rattle.decimal.proofs.DecimalLaws.{digits-value}
 use Rattle.gregorian.specs.Date.{fullYear}
 use Rattle.layout.specs.Layout.{flagOf, allowed, FitsLayout, run, number}
+use Rattle.layout.proofs.ByteLaws.{flag-test}
 use Rattle.layout.proofs.LayoutLaws.{allDigits, place-within, run-digits, length-run, number-below}
 
 -- ---- the string from its open places: the layout gives the fixed ones
@@ -90,18 +91,6 @@ module _ (P : ℕ → Type 0) (b : ℕ) where
       go false false true e f g h = subst P (sym (eqb-true _ _ g)) second
       go false false false e f g h = absurd (false≢true h)
 
-flag-place : (n b : ℕ) → n < 256 → allowed (flagOf n) b ≡ (eqb b 32 || eqb b n)
-unfolding allowed
-flag-place n b h =
-    let rest : (512 + n) % 256 ≡ n = omega arith in
-    simp (
-      le-ltb (512 + n) 256 (omega arith),
-      ne-eqb (512 + n) 256 (λ e. omega arith),
-      ne-eqb (512 + n) 257 (λ e. omega arith),
-      lt-ltb (512 + n) 65536 (omega arith),
-      rest,
-    )
-
 -- a flag's letter is written as it was read
 pub letter-back : {l s : List ℕ} → FitsLayout l s → (at n : ℕ) → (ltb n 256 && eqb (getD l at 0) (flagOf n)) ≡ true
     → cond (eqb (getD s at 0) n) n 32 ≡ getD s at 0
@@ -110,7 +99,7 @@ letter-back {l} {s} h at n e =
     let p = eqb-true (getD l at 0) (flagOf n) (w .1) in
     let fits = rw p at (h .at at (place-within l at (flagOf n) (omega arith) p)) in
     flag-all (λ x. cond (eqb x n) n 32 ≡ x) (getD s at 0) n (blank (eqb 32 n) refl) (rw (eq-eqb n n refl))
-    (sym (flag-place n (getD s at 0) (ltb-true n 256 (w .0))) ∙ fits)
+    (sym (flag-test n (getD s at 0) (ltb-true n 256 (w .0))) ∙ fits)
   where
     blank : (t : Bool) → eqb 32 n ≡ t → cond t n 32 ≡ 32
     blank true q = sym (eqb-true 32 n q)

@@ -3,7 +3,7 @@ use Prim.Native.Nat.{ℕ}
 use mathlib.Core.Path.{_≡_, refl}
 use mathlib.Core.Bool.{Bool, true, false, _&&_}
 use mathlib.Core.List.{List}
-use Rattle.clock_time.specs.Writing.{writing}
+use Rattle.clock_time.specs.Writing.{Outcome, writing}
 use Rattle.clock_time.proofs.SameLaws.{beq-refl}
 use Rattle.calendar.specs.UnixTime.{isValid}
 use Rattle.calendar.proofs.ValidLaws.{valid}
@@ -68,7 +68,8 @@ decides =
     }
 
 -- the writer's code does as its definition says
-pub writes : (g : GpsTime) {u v : Bool} {bytes : List ℕ} → u ≡ isValid (g .time) → v ≡ positionCarried (g .position)
-    → bytes ≡ gpsText g → (buffer : List ℕ) → writing (u && v) bytes buffer ≡ writeGps g buffer
+pub writes : (g : GpsTime) (buffer : List ℕ) {u v : Bool} {bytes : List ℕ} {o : Outcome}
+    → o ≡ writing (u && v) bytes buffer → u ≡ isValid (g .time) → v ≡ positionCarried (g .position)
+    → bytes ≡ gpsText g → o ≡ writeGps g buffer
 unfolding writeGps gps
-writes g h k e buffer = text.writes gps gpsCarries decides sameGps-refl sameGps-true g h k e buffer
+writes = text.writes gps gpsCarries decides sameGps-refl sameGps-true

@@ -1,10 +1,9 @@
 -- `meinberg_pzf_writer::text_of` meets its contract. Assumes nothing.
-use borrow.Author.Needs.{needs}
+use borrow.Author.Needs.{needs, sfits-of}
 use mathlib.Core.Path.{_∙_}
 use mir.Syntax.{w16}
 use mir.Val.{SFits}
 use mir.Facts.{toZ-ofZ}
-use borrow.Author.Needs.{sfits-of}
 use Rattle.meinberg_pzf.specs.Pzf.{pzfText}
 use Rattle.meinberg_pzf_writer.proofs.text_of.Statement.{statement}
 use Rattle.meinberg_pzf_writer.proofs.text_of.Tie as tie
@@ -23,7 +22,6 @@ returns c =
     let u = v .before in
     let t = u .before in
     let o = t .before in
-    let utc = rw (toZ-ofZ (offset-fits (o .before .before))) at (o .same-offset .ensures) in
     c .line-with .ensures
     ∙ simp (
       a .letter-if7 .ensures,
@@ -33,7 +31,8 @@ returns c =
       v .letter-if3 .ensures,
       u .letter-if2 .ensures,
       t .letter-if .ensures,
-      utc,
+      o .same-offset .ensures,
+      toZ-ofZ (offset-fits (o .before .before)),
     )
 
 pub text-of-spec : {M : Type 1} → statement M

@@ -1,10 +1,9 @@
 -- `meinberg_standard_writer::text_of` meets its contract. Assumes nothing.
-use borrow.Author.Needs.{needs}
+use borrow.Author.Needs.{needs, sfits-of}
 use mathlib.Core.Path.{_∙_}
 use mir.Syntax.{w16}
 use mir.Val.{SFits}
 use mir.Facts.{toZ-ofZ}
-use borrow.Author.Needs.{sfits-of}
 use Rattle.meinberg_standard.specs.Standard.{standardText}
 use Rattle.meinberg_standard_writer.proofs.text_of.Statement.{statement}
 use Rattle.meinberg_standard_writer.proofs.text_of.Tie as tie
@@ -17,10 +16,14 @@ unfolding standardText
 returns c =
     let x = c .before .before in
     let b = x .before .before in
-    let f = offset-fits (b .before .before) in
-    let zone = rw (toZ-ofZ f) at (x .zone-letter .ensures) in
     c .line-with .ensures
-    ∙ simp (c .before .announced-letter .ensures, zone, b .letter-if2 .ensures, b .before .letter-if .ensures)
+    ∙ simp (
+      toZ-ofZ (offset-fits (b .before .before)),
+      c .before .announced-letter .ensures,
+      x .zone-letter .ensures,
+      b .letter-if2 .ensures,
+      b .before .letter-if .ensures,
+    )
 
 pub text-of-spec : {M : Type 1} → statement M
 text-of-spec =

@@ -43,20 +43,26 @@ unfolding firstNumber
 first-none = refl
 
 -- a check that fails is the first, one that passes leaves it to those after it; t is what the code found
-module _ (k : Check) (ks : List Check) {t : Bool} (e : t ≡ k .fails) where
-  pub first-here : t ≡ true → k .number ≡ firstNumber (k ∷ ks)
+module _ (k : Check) (ks : List Check) {t : Bool} {n : ℕ} (e : t ≡ k .fails) where
+  pub first-here : t ≡ true → n ≡ k .number → n ≡ firstNumber (k ∷ ks)
   unfolding firstNumber
-  first-here h = rw (sym e ∙ h) refl
+  first-here h same = rw (sym e ∙ h) same
 
-  pub first-later : {n : ℕ} → t ≡ false → n ≡ firstNumber ks → n ≡ firstNumber (k ∷ ks)
+  pub first-later : t ≡ false → n ≡ firstNumber ks → n ≡ firstNumber (k ∷ ks)
   unfolding firstNumber
   first-later h later = rw (sym e ∙ h) later
 
+pub ruleset first = (first-none, first-here, first-later)
+
+-- what the answer to a run still depends on: these checks, and the minute if none of them fails
+pub record Left (m : List ℕ) (ks : List Check) (a : MinuteTime) : Type 0 where
+  pub says : readMinute m ≡ checked ks a
+
 module _ (more : List Check) (a : MinuteTime) where
-  stops : (ks : List Check) (e : ℕ) → e ≡ firstNumber ks → (e ≡ 0 → ⊥) → checked (ks ++ more) a ≡ refused e
+  first-fails : (ks : List Check) (e : ℕ) → e ≡ firstNumber ks → (e ≡ 0 → ⊥) → checked (ks ++ more) a ≡ refused e
   unfolding firstNumber
-  stops [] e f n = absurd (n f)
-  stops (k ∷ ks) e f n = go (k .fails) f (λ g. stops ks e g n)
+  first-fails [] e f n = absurd (n f)
+  first-fails (k ∷ ks) e f n = go (k .fails) f (λ g. first-fails ks e g n)
     where
       go : (t : Bool) → e ≡ cond t (k .number) (firstNumber ks)
           → (e ≡ firstNumber ks → checked (ks ++ more) a ≡ refused e)
@@ -64,20 +70,30 @@ module _ (more : List Check) (a : MinuteTime) where
       go true f later = rw f
       go false f later = later f
 
-  goes-on : (ks : List Check) (e : ℕ) → e ≡ firstNumber ks → e ≡ 0 → within ks ≡ true
+  none-fails : (ks : List Check) (e : ℕ) → e ≡ firstNumber ks → e ≡ 0 → within ks ≡ true
       → checked (ks ++ more) a ≡ checked more a
   unfolding firstNumber
-  goes-on [] e f z w = refl
-  goes-on (k ∷ ks) e f z w =
+  none-fails [] e f z w = refl
+  none-fails (k ∷ ks) e f z w =
       let last = both (leb 5 (k .number) && leb (k .number) 19) (within ks) w in
       let least = leb-true 5 (k .number) (both (leb 5 (k .number)) (leb (k .number) 19) (last .0) .0) in
-      go (k .fails) f least (λ g. goes-on ks e g z (last .1))
+      go (k .fails) f least (λ g. none-fails ks e g z (last .1))
     where
       go : (t : Bool) → e ≡ cond t (k .number) (firstNumber ks) → 5 ≤ k .number
           → (e ≡ firstNumber ks → checked (ks ++ more) a ≡ checked more a)
           → cond t (refused (k .number)) (checked (ks ++ more) a) ≡ checked more a
       go true f least later = absurd (omega arith)
       go false f least later = later f
+
+-- e is the number of the first of some checks that fails: the code stops there, or these checks have passed
+module _ {m : List ℕ} (ks more : List Check) {a : MinuteTime} (left : Left m (ks ++ more) a) {e : ℕ}
+    (f : e ≡ firstNumber ks)
+  where
+    pub stops : (e ≡ 0 → ⊥) → readMinute m ≡ refused e
+    stops wrong = left .says ∙ first-fails more a ks e f wrong
+
+    pub passes : e ≡ 0 → within ks ≡ true → Left m more a
+    passes right known = record { says = left .says ∙ none-fails more a ks e f right known }
 
 pub number-known : (ks : List Check) (e : ℕ) → e ≡ firstNumber ks → (e ≡ 0 → ⊥) → within ks ≡ true
     → (5 ≤ e) × (e ≤ 19)
@@ -94,7 +110,7 @@ number-known (k ∷ ks) e f n w =
     go false f l u later = later f
 
 -- the checks of the date and of the time, on the fields that were read
-abbrev fieldChecks : List ℕ → MinuteTime → List Check
+abbrev pub fieldChecks : List ℕ → MinuteTime → List Check
 fieldChecks m a =
     let t = a .time in
     dateChecks (t .weekday) (t .year) (t .month) (t .day) ++ timeChecks m (t .hour) (t .minute)
@@ -103,53 +119,28 @@ no-second : (hour minute : ℕ) (offset : ℤ) → timeExists hour minute 0 offs
 unfolding timeExists
 no-second hour minute offset = and-true (ltb hour 24 && ltb minute 60)
 
-run-checks : {m : List ℕ} {n h d : ℕ} → Numbers m n h d → not (eqb (length m) 59 || eqb (length m) 60) ≡ false
-    → readMinute m
-    ≡ checked ((startChecks m ++ numberChecks n h d) ++ fieldChecks m (minuteFields m)) (minuteFields m)
+-- the checks of a run of 59 or 60 sure marks
+pub run-left : {m : List ℕ} {n h d : ℕ} → Numbers m n h d → not (eqb (length m) 59 || eqb (length m) 60) ≡ false
+    → Left m ((startChecks m ++ numberChecks n h d) ++ fieldChecks m (minuteFields m)) (minuteFields m)
 unfolding readMinute minuteChecks minuteFields announced
-run-checks {m} {n} {h} {d} k long =
-    simp (
-      long,
-      k .run .sure,
-      minute-odd k,
-      hour-odd k,
-      date-odd k,
-      digits-fit k,
-      no-second,
-    )
+run-left {m} {n} {h} {d} k long =
+    record {
+      says =
+          simp (
+            long,
+            k .run .sure,
+            minute-odd k,
+            hour-odd k,
+            date-odd k,
+            digits-fit k,
+            no-second,
+          );
+    }
 
 -- a run of 59 or 60 sure marks
 pub run-sure : {m : List ℕ} {ok : Bool} → not (eqb (length m) 59 || eqb (length m) 60) ≡ false → ok ≡ allSure m
     → not ok ≡ false → Sure m
 run-sure long sure passed = record { long = length-between _ long .0; sure = sym sure ∙ not-false _ passed }
-
--- ---- where the code stops, and what it has passed before: e is what the marks give, g what the date gives, o what the
--- time gives
-module _ {m : List ℕ} {n h d : ℕ} (k : Numbers m n h d) (long : not (eqb (length m) 59 || eqb (length m) 60) ≡ false)
-    {e : ℕ} (f : e ≡ firstNumber (startChecks m ++ numberChecks n h d))
-  where
-    pub marks-stop : (e ≡ 0 → ⊥) → readMinute m ≡ refused e
-    marks-stop wrong = run-checks k long ∙ stops (fieldChecks m (minuteFields m)) (minuteFields m) _ e f wrong
-
-    module _ (marks : e ≡ 0) {a : MinuteTime} (same : a ≡ minuteFields m) {g : ℕ}
-        (p : g ≡ firstNumber (dateChecks (a .time .weekday) (a .time .year) (a .time .month) (a .time .day)))
-      where
-        fields-read : readMinute m ≡ checked (fieldChecks m a) a
-        fields-read =
-            rw same (run-checks k long ∙ goes-on (fieldChecks m (minuteFields m)) (minuteFields m) _ e f marks refl)
-
-        pub date-stop : (g ≡ 0 → ⊥) → readMinute m ≡ refused g
-        date-stop wrong = fields-read ∙ stops (timeChecks m (a .time .hour) (a .time .minute)) a _ g p wrong
-
-        module _ (date : g ≡ 0) {o : ℕ} (q : o ≡ firstNumber (timeChecks m (a .time .hour) (a .time .minute))) where
-          date-passed : readMinute m ≡ checked (timeChecks m (a .time .hour) (a .time .minute)) a
-          date-passed = fields-read ∙ goes-on (timeChecks m (a .time .hour) (a .time .minute)) a _ g p date refl
-
-          pub time-stop : (o ≡ 0 → ⊥) → readMinute m ≡ refused o
-          time-stop wrong = date-passed ∙ stops [] a _ o q wrong
-
-          pub time-pass : o ≡ 0 → readMinute m ≡ accepted a
-          time-pass right = date-passed ∙ goes-on [] a _ o q right refl
 
 pub above : (k n : ℕ) → (n ≡ k → ⊥) → k ≤ n → suc k ≤ n
 above k n differ least = omega arith

@@ -5,9 +5,10 @@ use mathlib.Core.Path.{refl, sym, ap, _∙_}
 use denote.Ref.{now}
 use Rattle.clock_time.specs.Errors.{refused}
 use Rattle.dcf77.specs.Minute.{minuteChecks, readMinute}
-use Rattle.dcf77.specs.Numbers.{Sure, Numbers}
-use Rattle.dcf77.proofs.CheckLaws.{length-between, number-known, run-sure}
-use Rattle.dcf77.proofs.CheckLaws.{marks-stop, date-stop, time-stop, time-pass}
+use Rattle.dcf77.specs.Numbers.{Sure, Numbers, timeChecks}
+use Rattle.dcf77.proofs.CheckLaws.{length-between, number-known, fieldChecks}
+use Rattle.dcf77.proofs.CheckLaws.{Left, run-left, run-sure, stops, passes}
+use mathlib.Core.List.{[]}
 use Rattle.dcf77.proofs.read_minute.Statement.{statement}
 use Rattle.dcf77.proofs.read_minute.Tie as tie
 
@@ -22,7 +23,6 @@ returns-2 : tie.Need-returns-2
 unfolding readMinute minuteChecks
 returns-2 c = simp (c .before .before .if1 .left, ← (c .before .all-sure .ensures), c .if2 .taken)
 
--- ---- a run of sure marks
 sure : (c : tie.Else2) → Sure (now (c .before .before .before .before .args .m))
 sure c = run-sure (c .before .before .if1 .left) (c .before .all-sure .ensures) (c .if2 .left)
 
@@ -32,13 +32,23 @@ read-eight-requires c κs = (omega (arith, sure c .long), sure c .sure)
 numbers : (c : tie.After-read-date)
     → Numbers (now (c .before .before .before .before .before .before .before .args .m))
     (c .before .before .read-eight .result) (c .before .read-hour .result) (c .read-date .result)
-numbers c =
-    record {
-      run = sure (c .before .before .before);
-      minute = c .before .before .read-eight .ensures;
-      hour = c .before .read-hour .ensures;
-      date = c .read-date .ensures;
-    }
+numbers c = search (sure (c .before .before .before))
+
+-- ---- what is left to check
+fields-left : (c : tie.After-fields)
+    → let m = now (c .before .before .before .before .before .before .before .before .before .before .args .m) in
+    Left m (fieldChecks m (c .fields .result)) (c .fields .result)
+fields-left c =
+    let k = c .before .before in
+    rw (c .fields .ensures)
+    (passes _ _ (run-left (numbers (k .before)) (search)) (k .marks-error .ensures) (c .before .if3 .left) refl)
+
+time-left : (c : tie.Else4)
+    → let f = c .before .before .before in
+    let m = now (f .before .before .before .before .before .before .before .before .before .before .args .m) in
+    let t = f .fields .result .time in
+    Left m (timeChecks m (t .hour) (t .minute)) (f .fields .result)
+time-left c = passes _ _ (fields-left (c .before .before .before)) (c .before .date-error .ensures) (c .if4 .left) refl
 
 -- ---- errors
 error-of-requires : tie.Need-error-of-requires
@@ -46,11 +56,9 @@ error-of-requires c κs = number-known _ _ (c .before .marks-error .ensures) (c 
 
 returns-3 : tie.Need-returns-3
 returns-3 c =
-    let e = c .before .before in
-    let r = e .before in
+    let k = c .before .before in
     ap refused (c .error-of .ensures)
-    ∙ sym (marks-stop (numbers r) (r .before .before .before .before .before .if1 .left) (e .marks-error .ensures)
-    (c .before .if3 .taken))
+    ∙ sym (stops _ _ (run-left (numbers (k .before)) (search)) (k .marks-error .ensures) (c .before .if3 .taken))
 
 error-of-requires-2 : tie.Need-error-of-requires-2
 error-of-requires-2 c κs = number-known _ _ (c .before .date-error .ensures) (c .if4 .taken) refl
@@ -58,38 +66,22 @@ error-of-requires-2 c κs = number-known _ _ (c .before .date-error .ensures) (c
 returns-4 : tie.Need-returns-4
 returns-4 c =
     let e = c .before .before in
-    let f = e .before .before in
-    let k = f .before .before in
-    let r = k .before in
     ap refused (c .error-of2 .ensures)
-    ∙ sym (date-stop (numbers r) (r .before .before .before .before .before .if1 .left) (k .marks-error .ensures)
-    (f .before .if3 .left) (f .fields .ensures) (e .date-error .ensures) (c .before .if4 .taken))
+    ∙ sym (stops _ _ (fields-left (e .before .before)) (e .date-error .ensures) (c .before .if4 .taken))
 
 error-of-requires-3 : tie.Need-error-of-requires-3
 error-of-requires-3 c κs = number-known _ _ (c .before .time-error .ensures) (c .if5 .taken) refl
 
 returns-5 : tie.Need-returns-5
 returns-5 c =
-    let o = c .before .before in
-    let e = o .before .before in
-    let f = e .before .before in
-    let k = f .before .before in
-    let r = k .before in
+    let e = c .before .before in
     ap refused (c .error-of3 .ensures)
-    ∙ sym (time-stop (numbers r) (r .before .before .before .before .before .if1 .left) (k .marks-error .ensures)
-    (f .before .if3 .left) (f .fields .ensures) (e .date-error .ensures) (o .before .if4 .left)
-    (o .time-error .ensures) (c .before .if5 .taken))
+    ∙ sym (stops _ [] (time-left (e .before)) (e .time-error .ensures) (c .before .if5 .taken))
 
 returns-6 : tie.Need-returns-6
 returns-6 c =
-    let o = c .before in
-    let e = o .before .before in
-    let f = e .before .before in
-    let k = f .before .before in
-    let r = k .before in
-    sym (time-pass (numbers r) (r .before .before .before .before .before .if1 .left) (k .marks-error .ensures)
-    (f .before .if3 .left) (f .fields .ensures) (e .date-error .ensures) (o .before .if4 .left)
-    (o .time-error .ensures) (c .if5 .left))
+    let e = c .before in
+    sym (passes _ [] (time-left (e .before)) (e .time-error .ensures) (c .if5 .left) refl .says)
 
 pub read-minute-spec : {M : Type 1} → statement M
 read-minute-spec =

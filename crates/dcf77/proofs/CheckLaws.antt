@@ -8,7 +8,7 @@ use mathlib.Core.List.{List, [], _∷_, _++_}
 use lib.Dec.{leb, ltb, eqb}
 use lib.IntN.{ℤ}
 use lib.ListN.{length}
-use borrow.Author.Tests.{not-false, eqb-true, leb-true}
+use borrow.Author.Tests.{not-false, eqb-true, leb-true, eq-eqb, ne-eqb}
 use Rattle.clock_time.specs.Errors.{Check, accepted, refused, checked}
 use Rattle.clock_time.proofs.Tests.{both}
 use Rattle.calendar.specs.TimeOfDay.{timeExists}
@@ -58,42 +58,34 @@ pub ruleset first = (first-none, first-here, first-later)
 pub record Left (m : List ℕ) (ks : List Check) (a : MinuteTime) : Type 0 where
   pub says : readMinute m ≡ checked ks a
 
-module _ (more : List Check) (a : MinuteTime) where
-  first-fails : (ks : List Check) (e : ℕ) → e ≡ firstNumber ks → (e ≡ 0 → ⊥) → checked (ks ++ more) a ≡ refused e
-  unfolding firstNumber
-  first-fails [] e f n = absurd (n f)
-  first-fails (k ∷ ks) e f n = go (k .fails) f (λ g. first-fails ks e g n)
-    where
-      go : (t : Bool) → e ≡ cond t (k .number) (firstNumber ks)
-          → (e ≡ firstNumber ks → checked (ks ++ more) a ≡ refused e)
-          → cond t (refused (k .number)) (checked (ks ++ more) a) ≡ refused e
-      go true f later = rw f
-      go false f later = later f
-
-  none-fails : (ks : List Check) (e : ℕ) → e ≡ firstNumber ks → e ≡ 0 → within ks ≡ true
-      → checked (ks ++ more) a ≡ checked more a
-  unfolding firstNumber
-  none-fails [] e f z w = refl
-  none-fails (k ∷ ks) e f z w =
-      let last = both (leb 5 (k .number) && leb (k .number) 19) (within ks) w in
-      let least = leb-true 5 (k .number) (both (leb 5 (k .number)) (leb (k .number) 19) (last .0) .0) in
-      go (k .fails) f least (λ g. none-fails ks e g z (last .1))
-    where
-      go : (t : Bool) → e ≡ cond t (k .number) (firstNumber ks) → 5 ≤ k .number
-          → (e ≡ firstNumber ks → checked (ks ++ more) a ≡ checked more a)
-          → cond t (refused (k .number)) (checked (ks ++ more) a) ≡ checked more a
-      go true f least later = absurd (omega arith)
-      go false f least later = later f
+by-first : (ks more : List Check) (a : MinuteTime) → within ks ≡ true
+    → checked (ks ++ more) a ≡ cond (eqb (firstNumber ks) 0) (checked more a) (refused (firstNumber ks))
+unfolding firstNumber
+by-first [] more a w = refl
+by-first (k ∷ ks) more a w =
+    let last = both (leb 5 (k .number) && leb (k .number) 19) (within ks) w in
+    let least = leb-true 5 (k .number) (both (leb 5 (k .number)) (leb (k .number) 19) (last .0) .0) in
+    go (k .fails) (ne-eqb (k .number) 0 (λ z. omega arith)) (by-first ks more a (last .1))
+  where
+    go : (t : Bool) → eqb (k .number) 0 ≡ false
+        → checked (ks ++ more) a ≡ cond (eqb (firstNumber ks) 0) (checked more a) (refused (firstNumber ks))
+        → cond t (refused (k .number)) (checked (ks ++ more) a)
+        ≡ (let e = cond t (k .number) (firstNumber ks) in cond (eqb e 0) (checked more a) (refused e))
+    go true named later = rw named
+    go false named later = later
 
 -- e is the number of the first of some checks that fails: the code stops there, or these checks have passed
 module _ {m : List ℕ} (ks more : List Check) {a : MinuteTime} (left : Left m (ks ++ more) a) {e : ℕ}
-    (f : e ≡ firstNumber ks)
+    (f : e ≡ firstNumber ks) (known : within ks ≡ true)
   where
-    pub stops : (e ≡ 0 → ⊥) → readMinute m ≡ refused e
-    stops wrong = left .says ∙ first-fails more a ks e f wrong
+    by-number : readMinute m ≡ cond (eqb e 0) (checked more a) (refused e)
+    by-number = rw f (left .says ∙ by-first ks more a known)
 
-    pub passes : e ≡ 0 → within ks ≡ true → Left m more a
-    passes right known = record { says = left .says ∙ none-fails more a ks e f right known }
+    pub stops : (e ≡ 0 → ⊥) → readMinute m ≡ refused e
+    stops wrong = rw (ne-eqb e 0 wrong) at by-number
+
+    pub passes : e ≡ 0 → Left m more a
+    passes right = record { says = rw (eq-eqb e 0 right) at by-number }
 
 pub number-known : (ks : List Check) (e : ℕ) → e ≡ firstNumber ks → (e ≡ 0 → ⊥) → within ks ≡ true
     → (5 ≤ e) × (e ≤ 19)

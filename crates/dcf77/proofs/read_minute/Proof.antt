@@ -41,14 +41,14 @@ fields-left : (c : tie.After-fields)
 fields-left c =
     let k = c .before .before in
     rw (c .fields .ensures)
-    (passes _ _ (run-left (numbers (k .before)) (search)) (k .marks-error .ensures) (c .before .if3 .left) refl)
+    (passes _ _ (run-left (numbers (k .before)) (search)) (k .marks-error .ensures) refl (c .before .if3 .left))
 
 time-left : (c : tie.Else4)
     → let f = c .before .before .before in
     let m = now (f .before .before .before .before .before .before .before .before .before .before .args .m) in
     let t = f .fields .result .time in
     Left m (timeChecks m (t .hour) (t .minute)) (f .fields .result)
-time-left c = passes _ _ (fields-left (c .before .before .before)) (c .before .date-error .ensures) (c .if4 .left) refl
+time-left c = passes _ _ (fields-left (c .before .before .before)) (c .before .date-error .ensures) refl (c .if4 .left)
 
 -- ---- errors
 error-of-requires : tie.Need-error-of-requires
@@ -58,7 +58,7 @@ returns-3 : tie.Need-returns-3
 returns-3 c =
     let k = c .before .before in
     ap refused (c .error-of .ensures)
-    ∙ sym (stops _ _ (run-left (numbers (k .before)) (search)) (k .marks-error .ensures) (c .before .if3 .taken))
+    ∙ sym (stops _ _ (run-left (numbers (k .before)) (search)) (k .marks-error .ensures) refl (c .before .if3 .taken))
 
 error-of-requires-2 : tie.Need-error-of-requires-2
 error-of-requires-2 c κs = number-known _ _ (c .before .date-error .ensures) (c .if4 .taken) refl
@@ -67,7 +67,7 @@ returns-4 : tie.Need-returns-4
 returns-4 c =
     let e = c .before .before in
     ap refused (c .error-of2 .ensures)
-    ∙ sym (stops _ _ (fields-left (e .before .before)) (e .date-error .ensures) (c .before .if4 .taken))
+    ∙ sym (stops _ _ (fields-left (e .before .before)) (e .date-error .ensures) refl (c .before .if4 .taken))
 
 error-of-requires-3 : tie.Need-error-of-requires-3
 error-of-requires-3 c κs = number-known _ _ (c .before .time-error .ensures) (c .if5 .taken) refl
@@ -76,12 +76,12 @@ returns-5 : tie.Need-returns-5
 returns-5 c =
     let e = c .before .before in
     ap refused (c .error-of3 .ensures)
-    ∙ sym (stops _ [] (time-left (e .before)) (e .time-error .ensures) (c .before .if5 .taken))
+    ∙ sym (stops _ [] (time-left (e .before)) (e .time-error .ensures) refl (c .before .if5 .taken))
 
 returns-6 : tie.Need-returns-6
 returns-6 c =
     let e = c .before in
-    sym (passes _ [] (time-left (e .before)) (e .time-error .ensures) (c .if5 .left) refl .says)
+    sym (passes _ [] (time-left (e .before)) (e .time-error .ensures) refl (c .if5 .left) .says)
 
 pub read-minute-spec : {M : Type 1} → statement M
 read-minute-spec =

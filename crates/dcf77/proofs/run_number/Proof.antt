@@ -41,33 +41,33 @@ fields-left : (c : tie.After-fields)
 fields-left c =
     let k = c .before .before in
     rw (c .fields .ensures)
-    (passes _ _ (run-left (numbers (k .before)) (search)) (k .marks-error .ensures) (c .before .if3 .left) refl)
+    (passes _ _ (run-left (numbers (k .before)) (search)) (k .marks-error .ensures) refl (c .before .if3 .left))
 
 time-left : (c : tie.Else4)
     → let f = c .before .before .before in
     let m = now (f .before .before .before .before .before .before .before .before .before .before .args .m) in
     let t = f .fields .result .time in
     Left m (timeChecks m (t .hour) (t .minute)) (f .fields .result)
-time-left c = passes _ _ (fields-left (c .before .before .before)) (c .before .date-error .ensures) (c .if4 .left) refl
+time-left c = passes _ _ (fields-left (c .before .before .before)) (c .before .date-error .ensures) refl (c .if4 .left)
 
 -- ---- errors
 returns-3 : tie.Need-returns-3
 unfolding runNumber
 returns-3 c =
     let k = c .before in
-    sym (ap outcomeNumber (stops _ _ (run-left (numbers (k .before)) (search)) (k .marks-error .ensures) (c .if3 .taken)))
+    sym (ap outcomeNumber (stops _ _ (run-left (numbers (k .before)) (search)) (k .marks-error .ensures) refl (c .if3 .taken)))
 
 returns-4 : tie.Need-returns-4
 unfolding runNumber
 returns-4 c =
     let e = c .before in
-    sym (ap outcomeNumber (stops _ _ (fields-left (e .before .before)) (e .date-error .ensures) (c .if4 .taken)))
+    sym (ap outcomeNumber (stops _ _ (fields-left (e .before .before)) (e .date-error .ensures) refl (c .if4 .taken)))
 
 returns-5 : tie.Need-returns-5
 unfolding runNumber
 returns-5 c =
     let e = c .before in
-    sym (ap outcomeNumber (stops _ [] (time-left (e .before)) (e .time-error .ensures) (c .if5 .taken)))
+    sym (ap outcomeNumber (stops _ [] (time-left (e .before)) (e .time-error .ensures) refl (c .if5 .taken)))
 
 -- ---- the number of the minute
 none-left : (c : tie.Else5)
@@ -76,7 +76,7 @@ none-left : (c : tie.Else5)
     (f .fields .result)
 none-left c =
     let e = c .before in
-    passes _ [] (time-left (e .before)) (e .time-error .ensures) (c .if5 .left) refl
+    passes _ [] (time-left (e .before)) (e .time-error .ensures) refl (c .if5 .left)
 
 minute-number-requires : tie.Need-minute-number-requires
 minute-number-requires c κs =

@@ -16,7 +16,7 @@ use Rattle.dcf77.specs.Minute.{announced, minuteFields, minuteChecks, re
 use Rattle.dcf77.specs.Marks.{allSure}
 use Rattle.dcf77.specs.Numbers.{Sure, Numbers, firstNumber, startChecks, numberChecks, dateChecks, timeChecks}
 use Rattle.dcf77.specs.declared.MinuteTime.{MinuteTime}
-use Rattle.dcf77.proofs.NumberLaws.{minute-odd, hour-odd, date-odd, digits-fit}
+use Rattle.dcf77.proofs.NumberLaws.{group-odd, digits-fit}
 
 pub two-lengths : (n : ℕ) → (eqb n 59 || eqb n 60) ≡ true → (n ≡ 59) ⊎ (n ≡ 60)
 two-lengths n h = go (eqb n 59) refl h
@@ -121,9 +121,9 @@ run-left {m} {n} {h} {d} k long =
           simp (
             long,
             k .run .sure,
-            minute-odd k,
-            hour-odd k,
-            date-odd k,
+            group-odd (k .run) 8 21 (k .minute),
+            group-odd (k .run) 7 29 (k .hour),
+            group-odd (k .run) 23 36 (k .date),
             digits-fit k,
             no-second,
           );

@@ -6,8 +6,14 @@ use mathlib.Core.List.{List}
 use lib.Dec.{leb, eqb}
 use lib.Count.{ones}
 use Rattle.dcf77.specs.Marks.{binary, isOdd}
-use Rattle.dcf77.specs.Numbers.{Numbers}
+use Rattle.dcf77.specs.Numbers.{Sure, Numbers}
 use Rattle.dcf77.proofs.MarkLaws.{binary-first, binary-field, ones-binary}
+
+-- the parity of a group of marks is that of its number's bits
+pub group-odd : {m : List ℕ} {n : ℕ} → Sure m → (k at : ℕ) → n ≡ binary k at m
+    → not (eqb (ones n % 2) 0) ≡ isOdd k at m
+unfolding isOdd
+group-odd {m} s k at h = rw (h, ones-binary m (s .sure) k at)
 
 module _ {m : List ℕ} {n h d : ℕ} (k : Numbers m n h d) where
   pub minute-ones : n % 16 ≡ binary 4 21 m
@@ -42,18 +48,6 @@ module _ {m : List ℕ} {n h d : ℕ} (k : Numbers m n h d) where
 
   pub year-tens : d / 262144 % 16 ≡ binary 4 54 m
   year-tens = rw (k .date) (binary-field m (k .run .sure) 18 4 1 36)
-
-  pub minute-odd : not (eqb (ones n % 2) 0) ≡ isOdd 8 21 m
-  unfolding isOdd
-  minute-odd = rw (k .minute, ones-binary m (k .run .sure) 8 21)
-
-  pub hour-odd : not (eqb (ones h % 2) 0) ≡ isOdd 7 29 m
-  unfolding isOdd
-  hour-odd = rw (k .hour, ones-binary m (k .run .sure) 7 29)
-
-  pub date-odd : not (eqb (ones d % 2) 0) ≡ isOdd 23 36 m
-  unfolding isOdd
-  date-odd = rw (k .date, ones-binary m (k .run .sure) 23 36)
 
   pub digits-fit : (leb (n % 16) 9 && leb (h % 16) 9 && leb (d % 16) 9 && leb (d / 512 % 16) 9 && leb (d / 16384 % 16) 9
       && leb (d / 262144 % 16) 9) ≡ (leb (binary 4 21 m) 9 && leb (binary 4 29 m) 9 && leb (binary 4 36 m) 9

@@ -60,75 +60,59 @@ marks-differ : (b : Bool) → mark b ≡ mark (not b) → ⊥
 marks-differ true h = omega arith
 marks-differ false h = omega arith
 
+-- a run that has a minute's numbers at their places
+record Spelled (a : MinuteTime) (m : List ℕ) : Type 0 where
+  marks : binary 14 1 m ≡ a .detail .marks
+  minute : binary 4 21 m ≡ a .time .minute % 10
+  minuteTens : binary 3 25 m ≡ a .time .minute / 10
+  hour : binary 4 29 m ≡ a .time .hour % 10
+  hourTens : binary 2 33 m ≡ a .time .hour / 10
+  day : binary 4 36 m ≡ a .time .day % 10
+  dayTens : binary 2 40 m ≡ a .time .day / 10
+  weekday : binary 3 42 m ≡ a .time .weekday
+  month : binary 4 45 m ≡ a .time .month % 10
+  monthTens : binary 1 49 m ≡ a .time .month / 10
+  year : binary 4 50 m ≡ a .time .year % 10
+  decade : binary 4 54 m ≡ a .time .year / 10 % 10
+
 module _ (a : MinuteTime) (w : Fits a) where
-  -- ---- the numbers in the run
-  minute-digit : binary 4 21 (minuteText a) ≡ a .time .minute % 10
-  unfolding minuteText firstMarks bits binary
-  minute-digit = binary-bits 4 (a .time .minute % 10) (omega arith)
-
-  hour-digit : binary 4 29 (minuteText a) ≡ a .time .hour % 10
-  unfolding minuteText firstMarks bits binary
-  hour-digit = binary-bits 4 (a .time .hour % 10) (omega arith)
-
-  day-digit : binary 4 36 (minuteText a) ≡ a .time .day % 10
-  unfolding minuteText firstMarks bits binary
-  day-digit = binary-bits 4 (a .time .day % 10) (omega arith)
-
-  month-digit : binary 4 45 (minuteText a) ≡ a .time .month % 10
-  unfolding minuteText firstMarks bits binary
-  month-digit = binary-bits 4 (a .time .month % 10) (omega arith)
-
-  year-digit : binary 4 50 (minuteText a) ≡ a .time .year % 10
-  unfolding minuteText firstMarks bits binary
-  year-digit = binary-bits 4 (a .time .year % 10) (omega arith)
-
-  decade-digit : binary 4 54 (minuteText a) ≡ a .time .year / 10 % 10
-  unfolding minuteText firstMarks bits binary
-  decade-digit = binary-bits 4 (a .time .year / 10 % 10) (omega arith)
-
+  -- ---- the fields
   date : Known (a .time .year) (a .time .month) (a .time .day)
   date = known _ _ _ (w .known-date)
 
-  minute-tens : binary 3 25 (minuteText a) ≡ a .time .minute / 10
+  spelled : Spelled a (minuteText a)
   unfolding minuteText firstMarks bits binary
-  minute-tens = binary-bits 3 (a .time .minute / 10) (omega (arith, w .minute))
+  spelled =
+      record {
+        marks = binary-bits 14 _ (w .marks);
+        minute = binary-bits 4 _ (omega arith);
+        minuteTens = binary-bits 3 _ (omega arith);
+        hour = binary-bits 4 _ (omega arith);
+        hourTens = binary-bits 2 _ (omega arith);
+        day = binary-bits 4 _ (omega arith);
+        dayTens = binary-bits 2 _ (omega (arith, date .small));
+        weekday = binary-bits 3 _ (omega arith);
+        month = binary-bits 4 _ (omega arith);
+        monthTens = binary-bits 1 _ (omega (arith, date .month));
+        year = binary-bits 4 _ (omega arith);
+        decade = binary-bits 4 _ (omega arith);
+      }
 
-  hour-tens : binary 2 33 (minuteText a) ≡ a .time .hour / 10
-  unfolding minuteText firstMarks bits binary
-  hour-tens = binary-bits 2 (a .time .hour / 10) (omega (arith, w .hour))
-
-  day-tens : binary 2 40 (minuteText a) ≡ a .time .day / 10
-  unfolding minuteText firstMarks bits binary
-  day-tens = binary-bits 2 (a .time .day / 10) (omega (arith, date .small))
-
-  month-tens : binary 1 49 (minuteText a) ≡ a .time .month / 10
-  unfolding minuteText firstMarks bits binary
-  month-tens = binary-bits 1 (a .time .month / 10) (omega (arith, date .month))
-
-  weekday-back : binary 3 42 (minuteText a) ≡ a .time .weekday
-  unfolding minuteText firstMarks bits binary
-  weekday-back = binary-bits 3 (a .time .weekday) (omega (arith, w .sunday))
-
-  marks-back : binary 14 1 (minuteText a) ≡ a .detail .marks
-  unfolding minuteText firstMarks bits binary
-  marks-back = binary-bits 14 (a .detail .marks) (w .marks)
-
-  -- ---- the fields
   minute-back : twoDigits 21 3 (minuteText a) ≡ a .time .minute
-  minute-back = two-digits (minuteText a) 21 3 (a .time .minute) minute-digit minute-tens
+  minute-back = two-digits (minuteText a) 21 3 _ (spelled .minute) (spelled .minuteTens)
 
   hour-back : twoDigits 29 2 (minuteText a) ≡ a .time .hour
-  hour-back = two-digits (minuteText a) 29 2 (a .time .hour) hour-digit hour-tens
+  hour-back = two-digits (minuteText a) 29 2 _ (spelled .hour) (spelled .hourTens)
 
   day-back : twoDigits 36 2 (minuteText a) ≡ a .time .day
-  day-back = two-digits (minuteText a) 36 2 (a .time .day) day-digit day-tens
+  day-back = two-digits (minuteText a) 36 2 _ (spelled .day) (spelled .dayTens)
 
   month-back : twoDigits 45 1 (minuteText a) ≡ a .time .month
-  month-back = two-digits (minuteText a) 45 1 (a .time .month) month-digit month-tens
+  month-back = two-digits (minuteText a) 45 1 _ (spelled .month) (spelled .monthTens)
 
   year-back : fullYear (twoDigits 50 4 (minuteText a)) ≡ a .time .year
   unfolding twoDigits fullYear
-  year-back = rw (year-digit, decade-digit) (omega (arith, date .first, date .last))
+  year-back = rw (spelled .year, spelled .decade) (omega (arith, date .first, date .last))
 
   flags-back : (long 15 (minuteText a) ≡ a .time .«alternate_antenna»)
       × (long 16 (minuteText a) ≡ a .time .«dst_change_announced»)
@@ -156,7 +140,7 @@ module _ (a : MinuteTime) (w : Fits a) where
               year = year-back i;
               month = month-back i;
               day = day-back i;
-              weekday = weekday-back i;
+              weekday = spelled .weekday i;
               hour = hour-back i;
               minute = minute-back i;
               second = sym (w .second) i;
@@ -168,7 +152,7 @@ module _ (a : MinuteTime) (w : Fits a) where
               «leap_second_announced» = flags-back .3 i;
               «alternate_antenna» = flags-back .0 i;
             };
-        detail = record { marks = marks-back i; sixty = length-back i };
+        detail = record { marks = spelled .marks i; sixty = length-back i };
       }
 
   -- ---- the rules
@@ -213,21 +197,15 @@ module _ (a : MinuteTime) (w : Fits a) where
   unfolding minuteText firstMarks bits
   opened = (refl, refl, marks-differ (a .time .«summer_time»))
 
-  parity-minute : getD (minuteText a) (21 + 7) 0 ≡ sum (marksFrom 7 21 (minuteText a)) % 2
+  parities : let m = minuteText a in
+      (getD m (21 + 7) 0 ≡ sum (marksFrom 7 21 m) % 2) × (getD m (29 + 6) 0 ≡ sum (marksFrom 6 29 m) % 2)
+      × (getD m (36 + 22) 0 ≡ sum (marksFrom 22 36 m) % 2)
   unfolding minuteText firstMarks bits marksFrom
-  parity-minute = refl
-
-  parity-hour : getD (minuteText a) (29 + 6) 0 ≡ sum (marksFrom 6 29 (minuteText a)) % 2
-  unfolding minuteText firstMarks bits marksFrom
-  parity-hour = refl
-
-  parity-date : getD (minuteText a) (36 + 22) 0 ≡ sum (marksFrom 22 36 (minuteText a)) % 2
-  unfolding minuteText firstMarks bits marksFrom
-  parity-date = refl
+  parities = (refl, refl, refl)
 
   weekday-fits : (1 ≤ announced (minuteText a) .weekday) × (announced (minuteText a) .weekday ≤ 7)
   unfolding announced
-  weekday-fits = (omega (arith, weekday-back, w .monday), omega (arith, weekday-back, w .sunday))
+  weekday-fits = (omega (arith, spelled .weekday), omega (arith, spelled .weekday))
 
   pub text-accepted : AcceptsMinute (minuteText a)
   text-accepted =
@@ -237,15 +215,15 @@ module _ (a : MinuteTime) (w : Fits a) where
         first = opened .0;
         start = opened .1;
         zone = opened .2;
-        minuteParity = parity-even (minuteText a) 7 21 parity-minute;
-        hourParity = parity-even (minuteText a) 6 29 parity-hour;
-        dateParity = parity-even (minuteText a) 22 36 parity-date;
-        minuteDigit = omega (arith, minute-digit);
-        hourDigit = omega (arith, hour-digit);
-        dayDigit = omega (arith, day-digit);
-        monthDigit = omega (arith, month-digit);
-        yearDigit = omega (arith, year-digit);
-        decadeDigit = omega (arith, decade-digit);
+        minuteParity = parity-even (minuteText a) 7 21 (parities .0);
+        hourParity = parity-even (minuteText a) 6 29 (parities .1);
+        dateParity = parity-even (minuteText a) 22 36 (parities .2);
+        minuteDigit = omega (arith, spelled .minute);
+        hourDigit = omega (arith, spelled .hour);
+        dayDigit = omega (arith, spelled .day);
+        monthDigit = omega (arith, spelled .month);
+        yearDigit = omega (arith, spelled .year);
+        decadeDigit = omega (arith, spelled .decade);
         monday = weekday-fits .0;
         sunday = weekday-fits .1;
         date = date-exists;

@@ -2,8 +2,6 @@
 use borrow.Author.Needs.{needs}
 use native.Mathlib.Omega.{arith}
 use denote.Ref.{now}
-use Prim.Native.Nat.{_+_, _≤_, _<_}
-use lib.ListN.{length}
 use Rattle.layout.specs.Words.{word}
 use Rattle.layout.proofs.WordLaws.{no-bytes, enough-bytes, run-eight}
 use Rattle.byte_words.proofs.word_at.Statement.{statement}
@@ -11,24 +9,17 @@ use Rattle.byte_words.proofs.word_at.Tie as tie
 
 returns : tie.Need-returns
 unfolding word
-returns c =
-    let a = c .before .before .args in
-    let few : length (now (a .s)) < a .at + 8 = omega arith in
-    rw (no-bytes (a .at) (now (a .s)) few)
+returns c = let a = c .before .before .args in rw (no-bytes (a .at) (now (a .s)) (omega arith))
 
 returns-2 : tie.Need-returns-2
 unfolding word
-returns-2 c =
-    let a = c .before .before .before .args in
-    let few : length (now (a .s)) < a .at + 8 = omega arith in
-    rw (no-bytes (a .at) (now (a .s)) few)
+returns-2 c = let a = c .before .before .before .args in rw (no-bytes (a .at) (now (a .s)) (omega arith))
 
 returns-3 : tie.Need-returns-3
 returns-3 c =
     let b = c .before .before .before .before .before .before .before .before .before in
     let a = b .before .before .before .args in
-    let eight : a .at + 8 ≤ length (now (a .s)) = omega arith in
-    rw (enough-bytes (a .at) (now (a .s)) eight, run-eight) (c .join .ensures)
+    rw (enough-bytes (a .at) (now (a .s)) (omega arith), run-eight) (c .join .ensures)
 
 pub word-at-spec : {M : Type 1} → statement M
 word-at-spec =

@@ -6,18 +6,11 @@ ghost use Rattle.layout.specs.Layout.{run};
 ghost use Rattle.layout.specs.Words.{word, enough, sampleFits, bySample, eachBySample, numbersAt};
 ghost use Rattle.layout.specs.Words.{flagsFit, nonzeroBytes};
 
-// As one sum, so that the compiler makes a single load of eight bytes that stand side by side.
+// The number of eight bytes side by side.
 fn join(a: u8, b: u8, c: u8, d: u8, e: u8, f: u8, g: u8, h: u8) -> u64
     ensures { λ r. ⌜ r ≡ word (a ∷ b ∷ c ∷ d ∷ e ∷ f ∷ g ∷ h ∷ []) ⌝ }
 {
-    a as u64
-        + 256 * (b as u64)
-        + 65536 * (c as u64)
-        + 16777216 * (d as u64)
-        + 4294967296 * (e as u64)
-        + 1099511627776 * (f as u64)
-        + 281474976710656 * (g as u64)
-        + 72057594037927936 * (h as u64)
+    bits::join_eight(a, b, c, d, e, f, g, h)
 }
 
 fn word_at(s: &[u8], at: usize) -> u64

@@ -77,14 +77,9 @@ module _ (m : List ℕ) (bytes : (i : ℕ) → getD m i 0 < 256) where
       + getD m at 0
       → eqb (bitAnd n 18374403900871474942) 0 ≡ sureFrom 8 at m
   eight-sure at n e =
-      let one : at + 1 ≡ suc at = omega arith in
-      let two : at + 2 ≡ suc (suc at) = omega arith in
-      let three : at + 3 ≡ suc (suc (suc at)) = omega arith in
-      let four : at + 4 ≡ suc (suc (suc (suc at))) = omega arith in
-      let five : at + 5 ≡ suc (suc (suc (suc (suc at)))) = omega arith in
-      let six : at + 6 ≡ suc (suc (suc (suc (suc (suc at))))) = omega arith in
-      let seven : at + 7 ≡ suc (suc (suc (suc (suc (suc (suc at)))))) = omega arith in
-      let same : n ≡ word 8 at m = e ∙ rw (one, two, three, four, five, six, seven) (omega arith) in
+      let same : n ≡ word 8 at m =
+      e
+      ∙ rw (add-suc at 6, add-suc at 5, add-suc at 4, add-suc at 3, add-suc at 2, add-suc at 1, add-one at) (omega arith) in
       rw same (sure-word 8 at)
 
 -- ---- a run of which all parts are sure
@@ -164,9 +159,7 @@ binary-four : (m : List ℕ) (at : ℕ)
     → binary 4 at m ≡ getD m at 0 + 2 * (getD m (at + 1) 0 + 2 * (getD m (at + 2) 0 + 2 * getD m (at + 3) 0))
 unfolding binary
 binary-four m at =
-    let two : at + 2 ≡ suc (suc at) = omega arith in
-    let three : at + 3 ≡ suc (suc (suc at)) = omega arith in
-    rw (add-one, two, three, add-zero)
+    rw (add-suc at 2, add-suc at 1, add-one at, add-zero)
 
 module _ {lo p : ℕ} (hi : ℕ) (h : lo < p) where
   pub high-part : (lo + p * hi) / p ≡ hi

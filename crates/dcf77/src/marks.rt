@@ -8,26 +8,12 @@ ghost use lib.Count.{ones};
 ghost use Rattle.dcf77.specs.Marks.{allSure, binary};
 ghost use Rattle.dcf77.specs.Numbers.{Sure, sureFrom, fourBytes};
 
-// Eight bytes side by side as one number. As one sum, so that the compiler makes a single load of them.
-fn join_eight(a: u8, b: u8, c: u8, d: u8, e: u8, f: u8, g: u8, h: u8) -> u64
-    ensures { λ r. ⌜ r ≡ ((((((h * 256 + g) * 256 + f) * 256 + e) * 256 + d) * 256 + c) * 256 + b) * 256 + a ⌝ }
-{
-    a as u64
-        + 256 * (b as u64)
-        + 65536 * (c as u64)
-        + 16777216 * (d as u64)
-        + 4294967296 * (e as u64)
-        + 1099511627776 * (f as u64)
-        + 281474976710656 * (g as u64)
-        + 72057594037927936 * (h as u64)
-}
-
 // True where eight marks are short or long: no bit but the lowest is set in any of the bytes.
 fn eight_sure(m: &[u8], at: usize) -> bool
     requires { ⌜ at + 8 ≤ length (now m) ⌝ }
     ensures { λ r. ⌜ r ≡ sureFrom 8 at (now (m .entry)) ⌝ }
 {
-    let bytes = join_eight(
+    let bytes = bits::join_eight(
         m[at],
         m[at + 1],
         m[at + 2],

@@ -7,24 +7,7 @@ use Rattle.byte_words.proofs.join.Tie as tie
 
 returns : tie.Need-returns
 unfolding word
-returns c = omega arith
+returns c = omega (arith, c .join-eight .ensures)
 
 pub join-spec : {M : Type 1} → statement M
-join-spec =
-    tie.close
-    (tie.spec
-    (λ c. search needs)
-    (λ c. search needs)
-    (λ c. search needs)
-    (λ c. search needs)
-    (λ c. search needs)
-    (λ c. search needs)
-    (λ c. search needs)
-    (λ c. search needs)
-    (λ c. search needs)
-    (λ c. search needs)
-    (λ c. search needs)
-    (λ c. search needs)
-    (λ c. search needs)
-    (λ c. search needs)
-    returns)
+join-spec = tie.close (tie.spec (λ c κs. search needs) returns)

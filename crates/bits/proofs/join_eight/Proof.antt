@@ -1,8 +1,8 @@
--- `dcf77::marks::join_eight` meets its contract. Assumes nothing.
+-- `bits::join_eight` meets its contract. Assumes nothing.
 use borrow.Author.Needs.{needs}
 use native.Mathlib.Omega.{arith}
-use Rattle.dcf77.proofs.marks.join_eight.Statement.{statement}
-use Rattle.dcf77.proofs.marks.join_eight.Tie as tie
+use Rattle.bits.proofs.join_eight.Statement.{statement}
+use Rattle.bits.proofs.join_eight.Tie as tie
 
 returns : tie.Need-returns
 returns c = omega arith

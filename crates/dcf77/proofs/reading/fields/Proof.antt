@@ -1,5 +1,6 @@
 -- `dcf77::reading::fields` meets its contract. Assumes nothing.
 use borrow.Author.Needs.{needs}
+use Prim.Native.Nat.{_<_}
 use native.Mathlib.Omega.{arith}
 use denote.Ref.{now}
 use Rattle.dcf77.specs.Minute.{minuteFields}
@@ -7,13 +8,8 @@ use Rattle.dcf77.proofs.MarkLaws.{binary-split, binary-below, binary-fi
 use Rattle.dcf77.proofs.reading.fields.Statement.{statement}
 use Rattle.dcf77.proofs.reading.fields.Tie as tie
 
-add-marks : tie.Need-add-marks
-add-marks c =
-    let s = c .before .before .before .before in
-    omega (arith, c .before .read-eight .ensures, binary-below _ (s .pre .run .sure) 8 1)
-
-cast-t11 : tie.Need-cast-t11
-cast-t11 c =
+first-small : (c : tie.After-read-eight2) → c .before .read-eight .result < 256
+first-small c =
     let s = c .before .before .before .before in
     omega (arith, c .before .read-eight .ensures, binary-below _ (s .pre .run .sure) 8 1)
 
@@ -38,6 +34,6 @@ fields-spec =
     (λ c κs. search needs)
     (λ c κs. search needs)
     (λ c. search needs)
-    add-marks
-    cast-t11
+    (λ c. omega (arith, first-small c))
+    (λ c. omega (arith, first-small c))
     returns)

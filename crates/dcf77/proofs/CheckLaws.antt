@@ -9,7 +9,7 @@ use lib.Dec.{leb, ltb, eqb}
 use lib.IntN.{ℤ}
 use lib.ListN.{length}
 use borrow.Author.Tests.{not-false, eqb-true, leb-true, eq-eqb, ne-eqb}
-use Rattle.clock_time.specs.Errors.{Check, accepted, refused, checked}
+use Rattle.clock_time.specs.Errors.{Check, refused, checked}
 use Rattle.clock_time.proofs.Tests.{both}
 use Rattle.calendar.specs.TimeOfDay.{timeExists}
 use Rattle.dcf77.specs.Minute.{announced, minuteFields, minuteChecks, readMinute}

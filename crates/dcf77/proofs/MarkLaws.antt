@@ -79,7 +79,8 @@ module _ (m : List ℕ) (bytes : (i : ℕ) → getD m i 0 < 256) where
   eight-sure at n e =
       let same : n ≡ word 8 at m =
       e
-      ∙ rw (add-suc at 6, add-suc at 5, add-suc at 4, add-suc at 3, add-suc at 2, add-suc at 1, add-one at) (omega arith) in
+      ∙ rw (add-suc at 6, add-suc at 5, add-suc at 4, add-suc at 3, add-suc at 2, add-suc at 1, add-one at)
+      (omega arith) in
       rw same (sure-word 8 at)
 
 -- ---- a run of which all parts are sure

@@ -15,7 +15,8 @@ returns c =
     let known = c .before .before .before .before .before in
     let a = known .before .args in
     let letters = a .a ∷ a .b ∷ a .c ∷ a .d ∷ a .e ∷ a .f ∷ a .g ∷ [] in
-    cc (flag-word letters (enough (a .at) (now (a .s))) (a .last) (a .at) (bytes-of letters (search needs)) (omega arith)
+    cc (flag-word letters (enough (a .at) (now (a .s))) (a .last) (a .at) (bytes-of letters (search needs))
+    (omega arith)
     (bytes-enough (a .at) (now (a .s)) (λ i. omega (arith, known .shared-slice-known .given i))))
 
 pub flags-fit-spec : {M : Type 1} → statement M

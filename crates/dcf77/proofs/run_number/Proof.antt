@@ -55,7 +55,8 @@ returns-3 : tie.Need-returns-3
 unfolding runNumber
 returns-3 c =
     let k = c .before in
-    sym (ap outcomeNumber (stops _ _ (run-left (numbers (k .before)) (search)) (k .marks-error .ensures) refl (c .if3 .taken)))
+    sym (ap outcomeNumber
+    (stops _ _ (run-left (numbers (k .before)) (search)) (k .marks-error .ensures) refl (c .if3 .taken)))
 
 returns-4 : tie.Need-returns-4
 unfolding runNumber

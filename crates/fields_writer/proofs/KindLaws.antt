@@ -10,16 +10,20 @@ use Rattle.clock_time.specs.Errors.{refused}
 use Rattle.clock_time.specs.Exit.{exit}
 use Rattle.fields_writer.specs.Writers.{kindNamed, writeAs, writeFrom, writeTime, writePlain}
 
+pub kind-unknown : (n : ℕ) → 3 < n → kindNamed n ≡ refused 1
+unfolding kindNamed
+kind-unknown n h =
+    simp (
+      ne-eqb n 0 (λ e. omega (arith, e)),
+      ne-eqb n 1 (λ e. omega (arith, e)),
+      ne-eqb n 2 (λ e. omega (arith, e)),
+      ne-eqb n 3 (λ e. omega (arith, e)),
+    )
+
 module _ (n : ℕ) (z : List ℤ) (d : List ℕ) where
   pub write-unknown : 3 < n → writeFrom n z d ≡ exit (refused 1) d
-  unfolding writeFrom kindNamed
-  write-unknown h =
-      simp (
-        ne-eqb n 0 (λ e. omega (arith, e)),
-        ne-eqb n 1 (λ e. omega (arith, e)),
-        ne-eqb n 2 (λ e. omega (arith, e)),
-        ne-eqb n 3 (λ e. omega (arith, e)),
-      )
+  unfolding writeFrom
+  write-unknown h = rw (kind-unknown n h)
 
   pub write-plain : n ≤ 3 → (n ≡ 2 → ⊥) → writePlain n z d ≡ writeFrom n z d
   unfolding writePlain writeTime writeFrom kindNamed writeAs

@@ -4,20 +4,8 @@ use Rattle.fields_writer.specs.Writers.{writeMinuteFrom}
 use Rattle.fields_writer.proofs.write_marks.Statement.{statement}
 use Rattle.fields_writer.proofs.write_marks.Tie as tie
 
-returns : tie.Need-returns
-unfolding writeMinuteFrom
-returns c =
-    let w = c .before .before in
-    let t = w .before .before .before in
-    rw (← (t .before .before .minute-of .ensures), t .a .given .1) (w .write-minute .ensures)
-
-returns-2 : tie.Need-returns-2
-unfolding writeMinuteFrom
-returns-2 c =
-    let t = c .before in
-    rw (← (t .before .before .minute-of .ensures), t .e .given .1)
-
 pub write-marks-spec : {M : Type 1} → statement M
+unfolding writeMinuteFrom
 write-marks-spec =
     tie.close
     (tie.spec
@@ -26,5 +14,7 @@ write-marks-spec =
     (λ c κs. search needs)
     (λ c. search needs)
     (λ c. search needs)
-    returns
-    returns-2)
+    (λ c.
+    let t = c .before .before .before .before .before in
+    rw (← (t .before .before .minute-of .ensures), t .a .given .1) (c .before .before .write-minute .ensures))
+    (λ c. rw (← (c .before .before .before .minute-of .ensures), c .before .e .given .1)))

@@ -1,68 +1,46 @@
 -- `radio_clock::strings::radio_clock_read` meets its contract. Assumes nothing.
 use borrow.Author.Needs.{needs}
-use borrow.Author.Tests.{ne-eqb}
+use native.Mathlib.Omega.{arith}
 use Rattle.time_string.specs.Kind.{readAs}
 use Rattle.clock_numbers.specs.Numbers.{putAnswer}
 use Rattle.fields_writer.specs.Writers.{kindNamed}
+use Rattle.fields_writer.proofs.KindLaws.{kind-unknown}
 use Rattle.radio_clock.specs.Strings.{readInto, readNumbered}
-use Rattle.radio_clock.proofs.StringLaws.{put-plain, put-located}
+use Rattle.radio_clock.proofs.StringLaws.{plain-put, located-put}
 use Rattle.radio_clock.proofs.strings.radio_clock_read.Statement.{statement}
 use Rattle.radio_clock.proofs.strings.radio_clock_read.Tie as tie
 
-returns : tie.Need-returns
-unfolding readInto readNumbered kindNamed readAs
-returns c =
-    let r = c .before .before .before in
-    rw (r .before .if1 .taken) (put-plain _ _ _ _ (c .before .put-time .ensures) (r .read-standard .ensures))
-
-returns-2 : tie.Need-returns-2
-unfolding readInto readNumbered kindNamed readAs
-returns-2 c =
-    let r = c .before .before .before in
-    rw (r .before .if2 .taken) (put-plain _ _ _ _ (c .before .put-time2 .ensures) (r .read-pzf .ensures))
-
-returns-3 : tie.Need-returns-3
-unfolding readInto readNumbered kindNamed readAs
-returns-3 c =
-    let r = c .before .before .before in
-    rw (r .before .if3 .taken) (put-located _ _ _ _ (c .before .put-gps .ensures) (r .read-gps .ensures))
-
-returns-4 : tie.Need-returns-4
-unfolding readInto readNumbered kindNamed readAs
-returns-4 c =
-    let r = c .before .before .before in
-    rw (r .before .if4 .taken) (put-plain _ _ _ _ (c .before .put-time3 .ensures) (r .read-elv .ensures))
-
 returns-5 : tie.Need-returns-5
-unfolding readInto readNumbered kindNamed putAnswer
-returns-5 c =
-    let b = c .before in
-    let a = b .before in
-    simp (
-      ne-eqb _ _ (a .before .if1 .left),
-      ne-eqb _ _ (a .if2 .left),
-      ne-eqb _ _ (b .if3 .left),
-      ne-eqb _ _ (c .if4 .left),
-    )
+unfolding readInto readNumbered putAnswer
+returns-5 c = rw (kind-unknown (c .before .before .before .before .before .args .kind) (omega arith))
 
 pub radio-clock-read-spec : {M : Type 1} → statement M
+unfolding readInto readNumbered kindNamed readAs
 radio-clock-read-spec =
     tie.close
     (tie.spec
     (λ c κs. search needs)
     (λ c κs. search needs)
     (λ c. search needs)
-    returns
+    (λ c.
+    let r = c .before .before .before in
+    rw (r .before .if1 .taken, ← (r .read-standard .ensures), ← plain-put) (c .before .put-time .ensures))
     (λ c κs. search needs)
     (λ c κs. search needs)
     (λ c. search needs)
-    returns-2
+    (λ c.
+    let r = c .before .before .before in
+    rw (r .before .if2 .taken, ← (r .read-pzf .ensures), ← plain-put) (c .before .put-time2 .ensures))
     (λ c κs. search needs)
     (λ c κs. search needs)
     (λ c. search needs)
-    returns-3
+    (λ c.
+    let r = c .before .before .before in
+    rw (r .before .if3 .taken, ← (r .read-gps .ensures), ← located-put) (c .before .put-gps .ensures))
     (λ c κs. search needs)
     (λ c κs. search needs)
     (λ c. search needs)
-    returns-4
+    (λ c.
+    let r = c .before .before .before in
+    rw (r .before .if4 .taken, ← (r .read-elv .ensures), ← plain-put) (c .before .put-time3 .ensures))
     returns-5)

@@ -1,14 +1,14 @@
 -- Each entry's definition is its lines, in their order, and then what it gives. Assumes nothing.
-use Prim.Native.Nat.{ℕ}
+use Prim.Native.Nat.{ℕ, zero, suc, _<_}
 use native.Mathlib.Omega.{arith}
-use mathlib.Core.Path.{_≡_, refl, ap}
+use mathlib.Core.Path.{_≡_, refl, ap, _∙_}
 use mathlib.Core.Bool.{Bool, true, false, cond, not, _||_}
 use mathlib.Core.List.{List, [], _∷_, _++_}
 use lib.Dec.{eqb, ltb}
 use mathlib.Core.Option.{Option, none, some}
 use lib.ListN.{length, getD, drop}
 use lib.IntN.{ℤ}
-use borrow.Author.Tests.{eqb-true, eqb-false, ltb-true, ltb-false}
+use borrow.Author.Tests.{lt-ltb}
 use Rattle.clock_time.specs.Errors.{Answer, accepted, refused, Check, given, checked}
 use Rattle.clock_time.specs.Exit.{leaves}
 use Rattle.clock_time.specs.Writing.{readsBack, writing, writeBack}
@@ -33,6 +33,7 @@ use Rattle.clock_numbers.specs.Numbers.{timeNumbers, gpsNumbers, minuteNumbers,
 use Rattle.clock_fields.specs.Ranges.{timeRanges, gpsRanges, minuteRanges, fits, fitsAll, timeFrom, gpsFrom}
 use Rattle.clock_fields.specs.Ranges.{minuteFrom, numbered}
 use Rattle.fields_writer.specs.Writers.{kindNamed}
+use Rattle.fields_writer.proofs.KindLaws.{kind-unknown}
 use Rattle.radio_clock.specs.Strings.{kindNumber, kindNumberOf, readingNumbers, readNumbered, readInto}
 use Rattle.fields_writer.specs.Writers.{writeAs, writeFrom}
 use Rattle.radio_clock.specs.Strings.{unixTimeOf}
@@ -74,22 +75,12 @@ kind-number-lines s =
 
 kind-named : (n : ℕ) → kindNamed n ≡ checked (unknownKind n ∷ []) (namedKind n)
 unfolding kindNamed
-kind-named n = go (eqb n 0) (eqb n 1) (eqb n 2) (eqb n 3) (ltb 3 n) refl refl refl refl refl
-  where
-    go : (a b c d u : Bool) → eqb n 0 ≡ a → eqb n 1 ≡ b → eqb n 2 ≡ c → eqb n 3 ≡ d → ltb 3 n ≡ u
-        → cond a (accepted Standard) (cond b (accepted Pzf) (cond c (accepted Gps) (cond d (accepted Elv) (refused 1))))
-        ≡ cond u (refused 1) (accepted (cond a Standard (cond b Pzf (cond c Gps Elv))))
-    go true b c d false p q r s u = refl
-    go false true c d false p q r s u = refl
-    go false false true d false p q r s u = refl
-    go false false false true false p q r s u = refl
-    go false false false false true p q r s u = refl
-    go true b c d true p q r s u = absurd (omega (arith, eqb-true n 0 p, ltb-true 3 n u))
-    go false true c d true p q r s u = absurd (omega (arith, eqb-true n 1 q, ltb-true 3 n u))
-    go false false true d true p q r s u = absurd (omega (arith, eqb-true n 2 r, ltb-true 3 n u))
-    go false false false true true p q r s u = absurd (omega (arith, eqb-true n 3 s, ltb-true 3 n u))
-    go false false false false false p q r s u =
-        absurd (omega (arith, eqb-false n 0 p, eqb-false n 1 q, eqb-false n 2 r, eqb-false n 3 s, ltb-false 3 n u))
+kind-named zero = refl
+kind-named (suc zero) = refl
+kind-named (suc (suc zero)) = refl
+kind-named (suc (suc (suc zero))) = refl
+kind-named (suc (suc (suc (suc n)))) =
+    let h : 3 < suc (suc (suc (suc n))) = omega arith in kind-unknown _ h ∙ rw (lt-ltb 3 _ h)
 
 -- ---- reading strings
 abbrev pub readingAs : Kind → List ℕ → Reading
@@ -148,17 +139,13 @@ read-lines n s fields =
     (put-lines readingNumbers fields a (places (namedKind n)) (numbers-long (namedKind n) s))
     (unknownKind n ∷ linesAs (namedKind n) s))
 
+numbers-append : (cs ds : List Check) → numbersOf (cs ++ ds) ≡ numbersOf cs ++ numbersOf ds
+numbers-append [] ds = refl
+numbers-append (c ∷ cs) ds = ap (λ (ns : List ℕ). c .number ∷ ns) (numbers-append cs ds)
+
 pub read-numbers : (n : ℕ) (s : List ℕ) (fields : List ℤ)
     → numbersOf (readLines n s fields) ≡ 1 ∷ textOrder ++ (20 ∷ [])
-unfolding textChecks clockChecks
-read-numbers n s fields = ap (λ (ns : List ℕ). 1 ∷ ns) (go (namedKind n) (roomFor (places (namedKind n)) fields) refl)
-  where
-    go : (kind : Kind) (room : Check) → room .number ≡ 20
-        → numbersOf (linesAs kind s ++ (room ∷ [])) ≡ textOrder ++ (20 ∷ [])
-    go Standard room e = rw e refl
-    go Pzf room e = rw e refl
-    go Gps room e = rw e refl
-    go Elv room e = rw e refl
+read-numbers n s fields = rw (numbers-append (linesAs (namedKind n) s), as-numbers)
 
 -- ---- writing strings
 -- what stands in the buffer after its bytes are written

@@ -4,55 +4,25 @@ use native.Mathlib.Omega.{arith}
 use mathlib.Core.Path.{_≡_, refl, sym, ap, _∙_}
 use mathlib.Core.Logic.{inl, inr}
 use mathlib.Core.Bool.{Bool, true, false, cond, not, _&&_}
-use mathlib.Core.List.{List, [], _∷_, _++_}
+use mathlib.Core.List.{List, [], _∷_, _++_, append-nil}
 use lib.Dec.{eqb}
 use borrow.Author.Tests.{eqb-false, not-true}
-use Rattle.clock_time.specs.Errors.{Answer, accepted, refused, Check, checked}
+use Rattle.clock_time.specs.Errors.{Answer, accepted, refused, Check, checked, FirstHolds, Passes}
 use Rattle.clock_time.specs.Exit.{Exit, leaves}
+use Rattle.clock_time.proofs.ErrorLaws.{apart, refused-first, first-refused, accepted-passes, passes-accepted}
 use Rattle.clock_time.proofs.Tests.{both}
 use Rattle.clock_time.specs.Called.{Called, statusOf, answered, left, counted, andThen, leaving}
-use Rattle.demands.specs.Ordered.{numbersOf, FirstHolds, NoneHolds, Ordered, Kept, Lent, FromC}
+use Rattle.demands.specs.Ordered.{numbersOf, Ordered, Kept, Lent, FromC}
 
--- no answer is accepted and refused
-pub apart : {A : Type 0} {B : Type 0} {a : A} {n : ℕ} → accepted a ≡ refused n → B
-apart e = absurd (let z : _≡_ {A = ℕ} 0 1 = cc in omega arith)
-
-module _ {A : Type 0} (a : A) where
-  refused-first : (cs : List Check) (n : ℕ) → checked cs a ≡ refused n → FirstHolds cs n
-  refused-first [] n h = apart h
-  refused-first (c ∷ cs) n h = go (c .fails) refl h (refused-first cs n)
-    where
-      go : (t : Bool) → c .fails ≡ t → cond t (refused (c .number)) (checked cs a) ≡ refused n
-          → (checked cs a ≡ refused n → FirstHolds cs n) → FirstHolds (c ∷ cs) n
-      go true e h rest = inl (e, cc)
-      go false e h rest = inr (e, rest h)
-
-  first-refused : (cs : List Check) (n : ℕ) → FirstHolds cs n → checked cs a ≡ refused n
-  first-refused [] n h = absurd h
-  first-refused (c ∷ cs) n (inl h) = rw (h .0) (ap refused (h .1))
-  first-refused (c ∷ cs) n (inr h) = rw (h .0) (first-refused cs n (h .1))
-
-  accepted-none : (cs : List Check) (b : A) → checked cs a ≡ accepted b → NoneHolds cs
-  accepted-none [] b h = tt
-  accepted-none (c ∷ cs) b h = go (c .fails) refl h (accepted-none cs b)
-    where
-      go : (t : Bool) → c .fails ≡ t → cond t (refused (c .number)) (checked cs a) ≡ accepted b
-          → (checked cs a ≡ accepted b → NoneHolds cs) → NoneHolds (c ∷ cs)
-      go true e h rest = apart (sym h)
-      go false e h rest = (e, rest h)
-
-  none-accepted : (cs : List Check) → NoneHolds cs → checked cs a ≡ accepted a
-  none-accepted [] h = refl
-  none-accepted (c ∷ cs) h = rw (h .0) (none-accepted cs (h .1))
-
-  -- the answer that lines give is in the order of their numbers
-  pub ordered : (cs : List Check) (answer : Answer A) → answer ≡ checked cs a → Ordered cs (numbersOf cs) answer
-  ordered cs answer e =
-      record {
-        numbers = refl;
-        refused-exactly = λ n. (λ h. refused-first cs n (sym e ∙ h), λ h. e ∙ first-refused cs n h);
-        accepted-exactly = (λ h. accepted-none cs (h .0) (sym e ∙ h .1), λ h. (a, e ∙ none-accepted cs h));
-      }
+-- the answer that lines give is in the order of their numbers
+pub ordered : {A : Type 0} (a : A) (cs : List Check) (answer : Answer A) → answer ≡ checked cs a
+    → Ordered cs (numbersOf cs) answer
+ordered a cs answer e =
+    record {
+      numbers = refl;
+      refused-exactly = λ n. (λ h. refused-first cs a n (sym e ∙ h), λ h. e ∙ first-refused cs a n h);
+      accepted-exactly = (λ h. accepted-passes cs a (h .0) (sym e ∙ h .1) .0, λ h. (a, e ∙ passes-accepted cs a h));
+    }
 
 -- what leaves lent memory as it was where it refuses
 module _ {A M : Type 0} (old new : M) where
@@ -71,42 +41,34 @@ module _ {A M : Type 0} (old new : M) where
         kept = leaves-kept (checked cs a);
       }
 
+-- ---- one after another
+-- two functions of an answer that make the same of a refusal, and of what lines and then more lines give
+module _ {A B X : Type 0} (a : A) (b : B) (ds : List Check) (f : Answer A → X) (g : Answer B → X)
+    (stops : (n : ℕ) → f (refused n) ≡ g (refused n)) (goes-on : f (accepted a) ≡ g (checked ds b)) where
+  follows : (cs : List Check) → f (checked cs a) ≡ g (checked (cs ++ ds) b)
+  follows [] = goes-on
+  follows (c ∷ cs) = branch (c .fails) (follows cs)
+    where
+      branch : (t : Bool) → f (checked cs a) ≡ g (checked (cs ++ ds) b)
+          → f (cond t (refused (c .number)) (checked cs a)) ≡ g (cond t (refused (c .number)) (checked (cs ++ ds) b))
+      branch true later = stops (c .number)
+      branch false later = later
+
 -- what is made of an accepted value changes no line
 module _ {A B : Type 0} (f : Answer A → Answer B) (g : A → B)
     (on-accepted : (a : A) → f (accepted a) ≡ accepted (g a)) (on-refused : (n : ℕ) → f (refused n) ≡ refused n) where
   pub checked-map : (cs : List Check) (a : A) → f (checked cs a) ≡ checked cs (g a)
-  checked-map [] a = on-accepted a
-  checked-map (c ∷ cs) a = go (c .fails) (checked-map cs a)
-    where
-      go : (t : Bool) → f (checked cs a) ≡ checked cs (g a)
-          → f (cond t (refused (c .number)) (checked cs a)) ≡ cond t (refused (c .number)) (checked cs (g a))
-      go true rest = on-refused (c .number)
-      go false rest = rest
+  checked-map cs a = rw append-nil at (follows a (g a) [] f (λ x. x) on-refused (on-accepted a) cs)
 
--- ---- one after another
 -- what goes on with an accepted value has the lines of both
 module _ {A B : Type 0} (a : A) (b : B) (ds : List Check) where
   pub then-checked : (go : A → Answer B) → go a ≡ checked ds b → (cs : List Check)
       → andThen (checked cs a) go ≡ checked (cs ++ ds) b
-  then-checked go e [] = e
-  then-checked go e (c ∷ cs) = branch (c .fails) (then-checked go e cs)
-    where
-      branch : (t : Bool) → andThen (checked cs a) go ≡ checked (cs ++ ds) b
-          → andThen (cond t (refused (c .number)) (checked cs a)) go
-          ≡ cond t (refused (c .number)) (checked (cs ++ ds) b)
-      branch true later = refl
-      branch false later = later
+  then-checked go e = follows a b ds (λ x. andThen x go) (λ x. x) (λ n. refl) e
 
   pub then-leaves : {M : Type 0} (old new : M) (go : A → Exit B M) → go a ≡ leaves old new (checked ds b)
       → (cs : List Check) → leaving old (checked cs a) go ≡ leaves old new (checked (cs ++ ds) b)
-  then-leaves old new go e [] = e
-  then-leaves old new go e (c ∷ cs) = branch (c .fails) (then-leaves old new go e cs)
-    where
-      branch : (t : Bool) → leaving old (checked cs a) go ≡ leaves old new (checked (cs ++ ds) b)
-          → leaving old (cond t (refused (c .number)) (checked cs a)) go
-          ≡ leaves old new (cond t (refused (c .number)) (checked (cs ++ ds) b))
-      branch true later = refl
-      branch false later = later
+  then-leaves old new go e = follows a b ds (λ x. leaving old x go) (leaves old new) (λ n. refl) e
 
 -- ---- calls from C
 -- none of the numbers is 0
@@ -122,17 +84,19 @@ status-refused : {A : Type 0} (a : Answer A) → (statusOf a ≡ 0 → ⊥) → 
 status-refused (accepted a) none = absurd (none refl)
 status-refused (refused k) none = (k, refl)
 
+first-positive : (cs : List Check) (n : ℕ) → positive (numbersOf cs) ≡ true → FirstHolds cs n → n ≡ 0 → ⊥
+first-positive [] n p h e = h
+first-positive (c ∷ cs) n p (inl h) e = eqb-false (c .number) 0 (not-true _ (both _ _ p .0)) (h .1 ∙ e)
+first-positive (c ∷ cs) n p (inr h) e =
+    first-positive cs n (both (not (eqb (c .number) 0)) (positive (numbersOf cs)) p .1) (h .1) e
+
 module _ {A : Type 0} (a : A) where
-  status-none : (cs : List Check) → positive (numbersOf cs) ≡ true → statusOf (checked cs a) ≡ 0 → NoneHolds cs
-  status-none [] p h = tt
-  status-none (c ∷ cs) p h =
-      let w = both (not (eqb (c .number) 0)) (positive (numbersOf cs)) p in
-      branch (c .fails) refl h (eqb-false (c .number) 0 (not-true _ (w .0))) (status-none cs (w .1))
+  status-none : (cs : List Check) → positive (numbersOf cs) ≡ true → statusOf (checked cs a) ≡ 0 → Passes cs
+  status-none cs p h = go (checked cs a) refl h
     where
-      branch : (t : Bool) → c .fails ≡ t → statusOf (cond t (refused (c .number)) (checked cs a)) ≡ 0
-          → (c .number ≡ 0 → ⊥) → (statusOf (checked cs a) ≡ 0 → NoneHolds cs) → NoneHolds (c ∷ cs)
-      branch true e h wrong rest = absurd (wrong h)
-      branch false e h wrong rest = (e, rest h)
+      go : (answer : Answer A) → checked cs a ≡ answer → statusOf answer ≡ 0 → Passes cs
+      go (accepted b) e h = accepted-passes cs a b e .0
+      go (refused n) e h = absurd (first-positive cs n p (refused-first cs a n e) h)
 
   -- a call whose status is that of lines
   from-C : {M : Type 0} (cs : List Check) (order : List ℕ) → numbersOf cs ≡ order → positive order ≡ true
@@ -142,11 +106,11 @@ module _ {A : Type 0} (a : A) where
       record {
         numbers = same;
         refused-exactly = λ n. (
-          λ h. refused-first a cs (suc n) (status-number (checked cs a) n (sym e ∙ h)),
-          λ h. e ∙ ap statusOf (first-refused a cs (suc n) h),
+          λ h. refused-first cs a (suc n) (status-number (checked cs a) n (sym e ∙ h)),
+          λ h. e ∙ ap statusOf (first-refused cs a (suc n) h),
         );
         accepted-exactly =
-            (λ h. status-none cs (rw same p) (sym e ∙ h), λ h. e ∙ ap statusOf (none-accepted a cs h));
+            (λ h. status-none cs (rw same p) (sym e ∙ h), λ h. e ∙ ap statusOf (passes-accepted cs a h));
         kept = kept;
       }
 

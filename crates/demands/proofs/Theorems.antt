@@ -19,7 +19,7 @@ use Rattle.clock_time.specs.declared.ClockTime.{ClockTime}
 use Rattle.gregorian.specs.Date.{knownDate, daysSinceEpoch, dayNumber, weekdayNumber, weekdayOf}
 use Rattle.calendar.specs.UnixTime.{isValid, instantOf, unixTime}
 use Rattle.decimal.specs.Decimal.{value, digits, firstNonDigit, readDigits, writeDigits}
-use Rattle.layout.specs.Text.{clockChecks, textChecks, readText, writeText}
+use Rattle.layout.specs.Text.{Format, clockChecks, textChecks, readText, writeText}
 use Rattle.meinberg_standard.specs.Accepts.{AcceptsStandard}
 use Rattle.meinberg_standard.specs.Standard.{standard, standardFields, readStandard, writeStandard}
 use Rattle.meinberg_standard.proofs.Theorems as standards
@@ -78,21 +78,26 @@ read-by-kind kind s =
     rw (← (entry.as-numbers kind s))
     (ordered (entry.readingAs kind s) (linesAs kind s) (readAs kind s) (entry.read-as-lines kind s))
 
+-- a string of any format
+pub read-text : {A : Type 0} (f : Format A) (s : List ℕ) → Ordered (textChecks f s) textOrder (readText f s)
+unfolding readText textChecks clockChecks
+read-text f s = ordered (f .fields s) (textChecks f s) _ refl
+
 pub read-standard : (s : List ℕ) → Ordered (textChecks standard s) textOrder (readStandard s)
-unfolding readStandard readText textChecks clockChecks
-read-standard s = ordered (standard .fields s) (textChecks standard s) _ refl
+unfolding readStandard
+read-standard s = read-text standard s
 
 pub read-pzf : (s : List ℕ) → Ordered (textChecks pzf s) textOrder (readPzf s)
-unfolding readPzf readText textChecks clockChecks
-read-pzf s = ordered (pzf .fields s) (textChecks pzf s) _ refl
+unfolding readPzf
+read-pzf s = read-text pzf s
 
 pub read-gps : (s : List ℕ) → Ordered (textChecks gps s) textOrder (readGps s)
-unfolding readGps readText textChecks clockChecks
-read-gps s = ordered (gps .fields s) (textChecks gps s) _ refl
+unfolding readGps
+read-gps s = read-text gps s
 
 pub read-elv : (s : List ℕ) → Ordered (textChecks elv s) textOrder (readElv s)
-unfolding readElv readText textChecks clockChecks
-read-elv s = ordered (elv .fields s) (textChecks elv s) _ refl
+unfolding readElv
+read-elv s = read-text elv s
 
 pub tell-kind : (s : List ℕ) → Ordered (kindLines s) (1 ∷ []) (kindOf s)
 tell-kind s = ordered (entry.toldKind s) (kindLines s) (kindOf s) (entry.kind-lines s)
@@ -104,21 +109,27 @@ pub write-bytes : (readable : Bool) (bytes d : List ℕ) →
 unfolding writing
 write-bytes readable bytes d = lent d _ (writerLines readable bytes d) (length bytes)
 
+-- a string of any format
+pub write-text : {A : Type 0} (f : Format A) (a : A) (d : List ℕ) →
+    Lent (textLines f a d) (23 ∷ 20 ∷ []) d (writeText f a d)
+unfolding writeText writeBack
+write-text f a d = write-bytes _ _ d
+
 pub write-standard : (t : ClockTime) (d : List ℕ) → Lent (textLines standard t d) (23 ∷ 20 ∷ []) d (writeStandard t d)
-unfolding writeStandard writeText writeBack
-write-standard t d = write-bytes _ _ d
+unfolding writeStandard
+write-standard t d = write-text standard t d
 
 pub write-pzf : (t : ClockTime) (d : List ℕ) → Lent (textLines pzf t d) (23 ∷ 20 ∷ []) d (writePzf t d)
-unfolding writePzf writeText writeBack
-write-pzf t d = write-bytes _ _ d
+unfolding writePzf
+write-pzf t d = write-text pzf t d
 
 pub write-gps : (g : GpsTime) (d : List ℕ) → Lent (textLines gps g d) (23 ∷ 20 ∷ []) d (writeGps g d)
-unfolding writeGps writeText writeBack
-write-gps g d = write-bytes _ _ d
+unfolding writeGps
+write-gps g d = write-text gps g d
 
 pub write-elv : (t : ClockTime) (d : List ℕ) → Lent (textLines elv t d) (23 ∷ 20 ∷ []) d (writeElv t d)
-unfolding writeElv writeText writeBack
-write-elv t d = write-bytes _ _ d
+unfolding writeElv
+write-elv t d = write-text elv t d
 
 -- ---- a DCF77 minute
 pub read-minute : (m : List ℕ) → Ordered (minuteChecks m) minuteOrder (readMinute m)

@@ -4,7 +4,7 @@ use native.Mathlib.Omega.{arith}
 use mathlib.Core.Path.{_≡_, refl}
 use mathlib.Core.Bool.{Bool, true, false, _&&_, false≢true, and-assoc, and-false}
 use mathlib.Core.List.{List, [], _∷_, _++_}
-use lib.Dec.{T, leb}
+use lib.Dec.{T, leb, eqb}
 use lib.ListN.{length, getD, drop, drop-of-length-le}
 use lib.Seq.{drop-cons}
 use lib.IntN.{ℤ, pos, negsuc, natAbs}
@@ -15,7 +15,7 @@ use borrow.Author.Tests.{leb-true}
 use Rattle.clock_time.specs.Errors.{accepted, refused}
 use Rattle.clock_time.proofs.Tests.{both}
 use Rattle.clock_fields.specs.Ranges.{Range, range, upTo, i16Range, within, ranges, fits, at}
-use Rattle.clock_fields.specs.Ranges.{numbered}
+use Rattle.clock_fields.specs.Ranges.{fitsAll, numbered}
 
 -- ---- a number in a range
 -- a number from 0 on in as many bits as hold its range
@@ -80,3 +80,16 @@ numbered-fit h e = rw (h, e)
 pub numbered-unfit : {A : Type 0} {fit : Bool} (a : A) → fit ≡ false → refused 23 ≡ numbered fit a
 unfolding numbered
 numbered-unfit a h = rw h
+
+-- the same where the code tests the length and then the numbers
+module _ (rs : List Range) (z : List ℤ) {fit : Bool} (e : fit ≡ fits rs z) where
+  pub all-fit : eqb (length z) (length rs) && fit ≡ true → fits rs z ≡ true
+  all-fit h = both (eqb (length z) (length rs)) (fits rs z) (rw e at h) .1
+
+  pub numbered-all : {A : Type 0} {a b : A} → eqb (length z) (length rs) && fit ≡ true → b ≡ a
+      → accepted b ≡ numbered (fitsAll rs z) a
+  numbered-all h k = numbered-fit (rw e at h) k
+
+  pub numbered-other : {A : Type 0} (a : A) → eqb (length z) (length rs) && fit ≡ false
+      → refused 23 ≡ numbered (fitsAll rs z) a
+  numbered-other a h = numbered-unfit a (rw e at h)

@@ -4,15 +4,8 @@ use Rattle.clock_numbers.specs.Numbers.{putAnswer}
 use Rattle.clock_numbers.proofs.put_minute.Statement.{statement}
 use Rattle.clock_numbers.proofs.put_minute.Tie as tie
 
-returns : tie.Need-returns
-unfolding putAnswer
-returns c = rw (c .before .before .before .before .answer .given .1) (c .before .put-detail .ensures)
-
-returns-2 : tie.Need-returns-2
-unfolding putAnswer
-returns-2 c = rw (c .before .before .answer2 .given .1, c .error-number .ensures)
-
 pub put-minute-spec : {M : Type 1} → statement M
+unfolding putAnswer
 put-minute-spec =
     tie.close
     (tie.spec
@@ -21,5 +14,5 @@ put-minute-spec =
     (λ c. search needs)
     (λ c κs. search needs)
     (λ c. search needs)
-    returns
-    returns-2)
+    (λ c. rw (c .before .before .before .before .answer .given .1) (c .before .put-detail .ensures))
+    (λ c. rw (c .before .before .answer2 .given .1, c .error-number .ensures)))

@@ -1,20 +1,9 @@
 -- `feed_state::mode_of` meets its contract. Assumes nothing.
-use borrow.Author.Tests.{eq-eqb, ne-eqb}
+use Rattle.clock_time.proofs.Tests.{tests}
 use Rattle.feed_state.specs.Feed.{modeOf}
 use Rattle.feed_state.proofs.mode_of.Statement.{statement}
 use Rattle.feed_state.proofs.mode_of.Tie as tie
 
-returns : tie.Need-returns
-unfolding modeOf
-returns c = simp (eq-eqb _ _ (c .if1 .taken))
-
-returns-2 : tie.Need-returns-2
-unfolding modeOf
-returns-2 c = simp (ne-eqb _ _ (c .before .if1 .left), eq-eqb _ _ (c .if2 .taken))
-
-returns-3 : tie.Need-returns-3
-unfolding modeOf
-returns-3 c = simp (ne-eqb _ _ (c .before .if1 .left), ne-eqb _ _ (c .if2 .left))
-
 pub mode-of-spec : {M : Type 1} → statement M
-mode-of-spec = tie.close (tie.spec returns returns-2 returns-3)
+unfolding modeOf
+mode-of-spec = tie.close (tie.spec (λ c. search tests) (λ c. search tests) (λ c. search tests))

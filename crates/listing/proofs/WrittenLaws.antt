@@ -36,6 +36,14 @@ written-none l s buffer =
       goes = simp (zero-add, sub-zero);
     }
 
+-- a turn of the loop takes some bytes, no more than there are, and puts their line, which has room
+pub record Turn (l : Listing) (s buffer : List ℕ) (i at : ℕ) (out : List ℕ) (r : Told) : Type 0 where
+  pub some : 0 < r .taken
+  pub within : i + r .taken ≤ length s
+  pub fits : at + r .line .length ≤ length out
+  pub more : Written l s buffer (i + r .taken) (at + r .line .length) (r .listing)
+      (paste out at (r .line .text) (r .line .length))
+
 module _
     (l : Listing) (s buffer : List ℕ) (i at : ℕ) (now : Listing) (out : List ℕ)
     (w : Written l s buffer i at now out)
@@ -47,13 +55,10 @@ module _
         told : Tells now (drop i s) r
         told = rw (rest s i) at t
 
-        pub written-some : 0 < r .taken
-        written-some = told .some (omega (arith, length-drop i s))
-
-        pub written-within : i + r .taken ≤ length s
+        written-within : i + r .taken ≤ length s
         written-within = omega (arith, told .within, length-drop i s)
 
-        pub written-fits : at + r .line .length ≤ length out
+        written-fits : at + r .line .length ≤ length out
         written-fits = omega (arith, told .short)
 
         abbrev more : List ℕ
@@ -76,7 +81,7 @@ module _
             (ap (drop at) (w .text) ∙ drop-at (textOf l (take i s)) (drop at buffer) at (sym (w .size)))
             ∙ drop-drop (r .line .length) at buffer
 
-        pub written-more : Written l s buffer (i + r .taken) (at + r .line .length) (r .listing)
+        written-more : Written l s buffer (i + r .taken) (at + r .line .length) (r .listing)
             (paste out at (r .line .text) (r .line .length))
         written-more =
             record {
@@ -98,6 +103,15 @@ module _
                   w .goes
                   ∙ ap (λ (n : ℕ). i + n) (told .goes (length buffer - at) (omega (arith, w .same)))
                   ∙ rw (drop-drop (r .taken) i s, sub-add-eq (length buffer) at (r .line .length), add-assoc);
+            }
+
+        pub turn : Turn l s buffer i at out r
+        turn =
+            record {
+              some = told .some (omega (arith, length-drop i s));
+              within = written-within;
+              fits = written-fits;
+              more = written-more;
             }
 
     written-taken : takenOf now (drop i s) (length buffer - at) ≡ 0

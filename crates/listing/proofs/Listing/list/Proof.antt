@@ -4,8 +4,7 @@ use Prim.Native.Nat.{_-_}
 use native.Mathlib.Omega.{arith}
 use borrow.Author.Needs.{needs}
 use lib.ListN.{length}
-use Rattle.listing.proofs.WrittenLaws.{Written, written-none, written-some, written-within, written-fits}
-use Rattle.listing.proofs.WrittenLaws.{written-more, written-end, written-full}
+use Rattle.listing.proofs.WrittenLaws.{Written, written-none, Turn, turn, written-end, written-full}
 use Rattle.listing.proofs.Listing.list.Statement.{statement}
 use Rattle.listing.proofs.Listing.list.Tie as tie
 
@@ -18,51 +17,30 @@ abbrev μ-loop : tie.MeasureT-loop
 sub-if1 : tie.Need-sub-if1 Inv-loop μ-loop
 sub-if1 c = omega (arith, c .before .loop .inv .fits, c .before .loop .inv .same)
 
+turn-of : (c : tie.After-tell Inv-loop μ-loop) →
+    let l = c .before .before .before .before .loop in
+    let x = c .before .before .before .before .before .before .before .args in
+    Turn (x .self) (x .s .now) (x .out .now) (l .i) (l .at) (l .out) (c .tell .result)
+turn-of c =
+    let t = c .before .before in
+    turn _ _ _ _ _ _ _ (t .before .before .loop .inv) _ (t .before .loop-test .taken) (t .if1 .left) (c .tell .ensures)
+
 put-line-requires : tie.Need-put-line-requires Inv-loop μ-loop
-put-line-requires c κs =
-    let d = c .before .before .before in
-    let t = d .before .before in
-    let s = t .before .before .before .before .before .args .s .now in (
-      written-fits _ s _ _ _ _ _ (t .before .before .loop .inv) _ (t .before .loop-test .taken) (t .if1 .left)
-          (d .tell .ensures),
-      d .tell .ensures .fits,
-    )
+put-line-requires c κs = let d = c .before .before .before in (turn-of d .fits, d .tell .ensures .fits)
 
 add-at : tie.Need-add-at Inv-loop μ-loop
-add-at c =
-    let d = c .before .before .before .before .before .before .before in
-    let t = d .before .before in
-    let s = t .before .before .before .before .before .args .s .now in
-    let h = written-fits _ s _ _ _ _ _ (t .before .before .loop .inv) _ (t .before .loop-test .taken) (t .if1 .left)
-    (d .tell .ensures) in
-    omega (arith, h)
+add-at c = omega (arith, turn-of (c .before .before .before .before .before .before .before) .fits)
 
 add-i : tie.Need-add-i Inv-loop μ-loop
-add-i c =
-    let d = c .before .before .before .before .before .before .before .before in
-    let t = d .before .before in
-    let s = t .before .before .before .before .before .args .s .now in
-    let h = written-within _ s _ _ _ _ _ (t .before .before .loop .inv) _ (t .before .loop-test .taken) (t .if1 .left)
-    (d .tell .ensures) in
-    omega (arith, h)
+add-i c = omega (arith, turn-of (c .before .before .before .before .before .before .before .before) .within)
 
 loop-less : tie.Need-loop-less Inv-loop μ-loop
-loop-less c =
-    let d = c .before .before .before .before .before .before .before .before in
-    let t = d .before .before in
-    let s = t .before .before .before .before .before .args .s .now in
-    let h = written-some _ s _ _ _ _ _ (t .before .before .loop .inv) _ (t .before .loop-test .taken) (t .if1 .left)
-    (d .tell .ensures) in
-    omega (arith, h)
+loop-less c = omega (arith, turn-of (c .before .before .before .before .before .before .before .before) .some)
 
 loop-again : tie.Need-loop-again Inv-loop μ-loop
 loop-again c =
-    let d = c .before .before .before .before .before .before .before .before in
-    let t = d .before .before in
-    let s = t .before .before .before .before .before .args .s .now in
-    rw (c .before .before .before .before .put-line .ensures)
-    (written-more _ s _ _ _ _ _ (t .before .before .loop .inv) _ (t .before .loop-test .taken) (t .if1 .left)
-    (d .tell .ensures))
+    let p = c .before .before .before .before in
+    rw (p .put-line .ensures) (turn-of (p .before .before .before .before) .more)
 
 returns : tie.Need-returns Inv-loop μ-loop
 returns c = written-full _ _ _ _ _ _ _ (c .before .before .loop .inv) (c .if1 .taken)

@@ -6,8 +6,8 @@ use mathlib.Core.List.{List}
 use lib.Dec.{leb, eqb}
 use lib.ListN.{length, drop}
 use borrow.Author.Tests.{not-false, eqb-true, eqb-false, eq-eqb, ne-eqb, leb-true, le-leb}
-use Rattle.clock_time.specs.Errors.{accepted}
-use Rattle.clock_time.proofs.ErrorLaws.{Passes, accepted-passes, passes-accepted}
+use Rattle.clock_time.specs.Errors.{accepted, Passes}
+use Rattle.clock_time.proofs.ErrorLaws.{accepted-passes, passes-accepted}
 use Rattle.clock_time.proofs.Tests.{both}
 use Rattle.dcf77.specs.Marks.{long, short, binary, isOdd}
 use Rattle.dcf77.specs.Minute.{announced, minuteFields, minuteChecks, readMinute}

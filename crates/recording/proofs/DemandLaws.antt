@@ -7,7 +7,8 @@ use mathlib.Core.List.{List}
 use lib.ListN.{length, getD, set, length-set}
 use lib.Seq.{getD-set-same, getD-set-other}
 use borrow.Author.Tests.{leb-false}
-use Rattle.clock_time.proofs.ErrorLaws.{Passes, accepted-passes}
+use Rattle.clock_time.specs.Errors.{Passes}
+use Rattle.clock_time.proofs.ErrorLaws.{accepted-passes}
 use Rattle.clock_time.proofs.ExitLaws.{leaves-accepted}
 use Rattle.dcf77.specs.Minute.{runNumber}
 use Rattle.recording.specs.Outcomes.{differences}

@@ -57,20 +57,8 @@ returns-2 c =
 pub are-within-spec : {M : Type 1} → statement M
 are-within-spec =
     tie.close
-    (tie.spec
-    Inv-loop
-    μ-loop
-    returns
-    loop-holds
-    (λ c. omega arith)
-    (λ c. omega arith)
-    (λ c. omega arith)
-    (λ c. omega arith)
-    (λ c. omega arith)
-    (λ c. omega (arith, c .before .before .before .before .before .pre))
+    (tie.spec Inv-loop μ-loop returns loop-holds (λ c. omega arith) (λ c. omega arith) (λ c. omega arith)
+    (λ c. omega arith) (λ c. omega arith) (λ c. omega (arith, c .before .before .before .before .before .pre))
     (λ c. omega (arith, c .before .before .before .before .before .before .pre))
-    (λ c. omega (arith, c .before .before .before .before .before .before .pre))
-    (λ c. omega arith)
-    (λ c. omega arith)
-    loop-again
-    returns-2)
+    (λ c. omega (arith, c .before .before .before .before .before .before .pre)) (λ c. omega arith) (λ c. omega arith)
+    loop-again returns-2)

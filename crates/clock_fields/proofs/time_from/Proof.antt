@@ -28,12 +28,8 @@ pub time-from-spec : {M : Type 1} → statement M
 unfolding timeRanges
 time-from-spec =
     tie.close
-    (tie.spec
-    (λ c κs. place c 0 tt)
-    (λ c κs. place (c .before) 1 tt)
-    (λ c κs. place (c .before .before) 2 tt)
-    (λ c κs. place (c .before .before .before) 3 tt)
-    (λ c κs. place (c .before .before .before .before) 4 tt)
+    (tie.spec (λ c κs. place c 0 tt) (λ c κs. place (c .before) 1 tt) (λ c κs. place (c .before .before) 2 tt)
+    (λ c κs. place (c .before .before .before) 3 tt) (λ c κs. place (c .before .before .before .before) 4 tt)
     (λ c κs. place (c .before .before .before .before .before) 5 tt)
     (λ c κs. place (c .before .before .before .before .before .before) 6 tt)
     (λ c κs. place (c .before .before .before .before .before .before .before) 7 tt)

@@ -28,5 +28,4 @@ returns c = let e : c .before .loop .i ≡ c .before .before .args .k = omega ar
 
 pub power-of-ten-spec : {M : Type 1} → statement M
 power-of-ten-spec =
-    tie.close
-    (tie.spec Inv-loop μ-loop loop-holds mul-power (λ c. omega arith) (λ c. omega arith) loop-again returns)
+    tie.close (tie.spec Inv-loop μ-loop loop-holds mul-power (λ c. omega arith) (λ c. omega arith) loop-again returns)

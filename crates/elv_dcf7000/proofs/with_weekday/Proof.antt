@@ -14,6 +14,5 @@ pub with-weekday-spec : {M : Type 1} → statement M
 unfolding withWeekday
 with-weekday-spec =
     tie.close
-    (tie.spec
-    (λ c κs. search needs)
+    (tie.spec (search needs)
     (λ c. simp (toZ-ofZ (offset-fits (c .before .before)), c .before .weekday-or-zero .ensures)))

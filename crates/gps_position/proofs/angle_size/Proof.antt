@@ -33,5 +33,4 @@ unfolding valueFrom
 returns c = omega (arith, c .before .four .ensures, c .four2 .ensures)
 
 pub angle-size-spec : {M : Type 1} → statement M
-angle-size-spec =
-    tie.close (tie.spec four-requires mul-result (λ c κs. search needs) add-result returns)
+angle-size-spec = tie.close (tie.spec four-requires mul-result (λ c κs. search needs) add-result returns)

@@ -22,11 +22,4 @@ cast-result c =
 pub height-spec : {M : Type 1} → statement M
 height-spec =
     tie.close
-    (tie.spec
-    (λ c. search needs)
-    (λ c. search needs)
-    (λ c. search needs)
-    (λ c. search needs)
-    four-requires
-    cast-result
-    (λ c. search needs))
+    (tie.spec (search needs) (search needs) (search needs) (search needs) four-requires cast-result (search needs))

@@ -33,14 +33,5 @@ returns-2 c =
 pub days-in-month-spec : {M : Type 1} → statement M
 days-in-month-spec =
     tie.close
-    (tie.spec
-    returns
-    (λ c. search needs)
-    (λ c κs. search needs)
-    (λ c. search needs)
-    sub-lacking
-    mul-lacking
-    add-result
-    (λ c. search needs)
-    sub-result
-    returns-2)
+    (tie.spec returns (search needs) (search needs) (search needs) sub-lacking mul-lacking add-result (search needs)
+    sub-result returns-2)

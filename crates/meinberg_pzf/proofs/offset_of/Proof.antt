@@ -7,7 +7,5 @@ pub offset-of-spec : {M : Type 1} → statement M
 unfolding pzfOffset
 offset-of-spec =
     tie.close
-    (tie.spec
-    (λ c. simp (c .if1 .taken))
-    (λ c. simp (c .before .if1 .left, c .if2 .taken))
+    (tie.spec (λ c. simp (c .if1 .taken)) (λ c. simp (c .before .if1 .left, c .if2 .taken))
     (λ c. simp (c .before .if1 .left, c .if2 .left)))

@@ -24,5 +24,4 @@ returns-3 c =
     rw (c .before .if1 .left, other)
 
 pub zone-letter-spec : {M : Type 1} → statement M
-zone-letter-spec =
-    tie.close (tie.spec returns returns-2 returns-3)
+zone-letter-spec = tie.close (tie.spec returns returns-2 returns-3)

@@ -20,5 +20,4 @@ returns-2 c =
     rw above
 
 pub sign-byte-spec : {M : Type 1} → statement M
-sign-byte-spec =
-    tie.close (tie.spec returns returns-2)
+sign-byte-spec = tie.close (tie.spec returns returns-2)

@@ -9,5 +9,4 @@ unfolding signHolds
 returns c = refl
 
 pub sign-holds-spec : {M : Type 1} → statement M
-sign-holds-spec =
-    tie.close (tie.spec returns)
+sign-holds-spec = tie.close (tie.spec returns)

@@ -34,5 +34,4 @@ returns-2 : tie.Need-returns-2
 returns-2 c = rw (kept-held (c .before .fits .z) (above c))
 
 pub size-spec : {M : Type 1} → statement M
-size-spec =
-    tie.close (tie.spec cast-w sub-result cast-result returns cast-result-2 returns-2)
+size-spec = tie.close (tie.spec cast-w sub-result cast-result returns cast-result-2 returns-2)

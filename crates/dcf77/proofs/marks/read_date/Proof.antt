@@ -37,12 +37,5 @@ returns c =
 pub read-date-spec : {M : Type 1} → statement M
 read-date-spec =
     tie.close
-    (tie.spec
-    (λ c κs. search needs)
-    (λ c κs. search needs)
-    (λ c κs. search needs)
-    mul-result
-    add-result
-    mul-result-2
-    add-result-2
-    returns)
+    (tie.spec (λ c κs. search needs) (λ c κs. search needs) (λ c κs. search needs) mul-result add-result mul-result-2
+    add-result-2 returns)

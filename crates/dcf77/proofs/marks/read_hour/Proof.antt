@@ -11,8 +11,4 @@ returns c =
     rw (c .read-eight .ensures) (binary-first (now (s .args .m)) (s .pre .sure) 7 1 29)
 
 pub read-hour-spec : {M : Type 1} → statement M
-read-hour-spec =
-    tie.close
-    (tie.spec
-    (λ c κs. search needs)
-    returns)
+read-hour-spec = tie.close (tie.spec (λ c κs. search needs) returns)

@@ -22,11 +22,4 @@ returns c = simp (c .local-minutes .ensures .1, c .before .days-to .ensures)
 
 pub minute-number-spec : {M : Type 1} → statement M
 minute-number-spec =
-    tie.close
-    (tie.spec
-    (λ c κs. search needs)
-    local-minutes-requires
-    mul-result
-    add-result
-    add-result-2
-    returns)
+    tie.close (tie.spec (λ c κs. search needs) local-minutes-requires mul-result add-result add-result-2 returns)

@@ -6,9 +6,4 @@ use Rattle.dcf77.proofs.reading.time_error.Tie as tie
 
 pub time-error-spec : {M : Type 1} → statement M
 time-error-spec =
-    tie.close
-    (tie.spec
-    (λ c. search first)
-    (λ c κs. search needs)
-    (λ c. search first)
-    (λ c. search first))
+    tie.close (tie.spec (λ c. search first) (λ c κs. search needs) (λ c. search first) (λ c. search first))

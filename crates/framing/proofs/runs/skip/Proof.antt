@@ -22,13 +22,6 @@ loop-again c f still =
 pub skip-spec : {M : Type 1} → statement M
 skip-spec =
     tie.close
-    (tie.spec
-    Inv-loop
-    μ-loop
-    (λ c f still. taken-none _ _)
-    (λ c. omega arith)
-    (λ c. c .before .before .before .loop .inv)
-    (λ c. omega arith)
-    (λ c. omega arith)
-    loop-again
+    (tie.spec Inv-loop μ-loop (λ c f still. taken-none _ _) (λ c. omega arith)
+    (λ c. c .before .before .before .loop .inv) (λ c. omega arith) (λ c. omega arith) loop-again
     (λ c. c .before .loop .inv))

@@ -36,21 +36,6 @@ returns-2 c = spelt-end _ _ _ _ (c .before .loop .inv) (omega arith)
 pub numeral-of-spec : {M : Type 1} → statement M
 numeral-of-spec =
     tie.close
-    (tie.spec
-    Inv-loop
-    μ-loop
-    (λ c. spelt-none _ _ refl)
-    (λ c. omega arith)
-    (λ c. omega arith)
-    array-write-digits
-    returns
-    (λ c. omega arith)
-    (λ c. omega arith)
-    array-write-digits-2
-    (λ c. omega arith)
-    (λ c. omega arith)
-    loop-again
-    (λ c. omega arith)
-    (λ c. omega arith)
-    array-write-digits-3
-    returns-2)
+    (tie.spec Inv-loop μ-loop (λ c. spelt-none _ _ refl) (λ c. omega arith) (λ c. omega arith) array-write-digits
+    returns (λ c. omega arith) (λ c. omega arith) array-write-digits-2 (λ c. omega arith) (λ c. omega arith) loop-again
+    (λ c. omega arith) (λ c. omega arith) array-write-digits-3 returns-2)

@@ -10,10 +10,11 @@ use mathlib.Core.Bool.{Bool, true, false, _&&_, and-assoc}
 use mathlib.Core.List.{List, [], _∷_}
 use lib.Dec.{ltb, eqb, lit<}
 use lib.ListN.{length, getD, List·getD-eq-default}
-use lib.Bits.{bitAnd, and-block, and-high, and-zero-l}
+use lib.Bits.{bitAnd, and-high, and-zero-l}
 use lib.Count.{ones, ones-step}
 use lib.Arith.{digits-div, digits-mod}
 use borrow.Author.Tests.{ltb-true, lt-ltb, le-ltb, eq-eqb, ne-eqb}
+use Rattle.bits.proofs.ByteLaws.{zero-block}
 use Rattle.clock_time.proofs.Tests.{both}
 use Rattle.dcf77.specs.Marks.{allSure, binary, longs}
 use Rattle.dcf77.specs.Numbers.{sureFrom, fourBytes}
@@ -41,15 +42,6 @@ abbrev highs : ℕ → ℕ
 highs zero = 0
 highs (suc k) = highs k * 256 + 254
 
-zero-sum : (x r : ℕ) → eqb (x * 256 + r) 0 ≡ (eqb r 0 && eqb x 0)
-zero-sum x r = elim (ℕ-discrete r 0) [
-  | yes e ↦ elim (ℕ-discrete x 0) [
-    | yes f ↦ simp (eq-eqb r 0 e, eq-eqb x 0 f, eq-eqb (x * 256 + r) 0 (omega arith))
-    | no f ↦ simp (eq-eqb r 0 e, ne-eqb x 0 f, ne-eqb (x * 256 + r) 0 (λ z. f (omega arith)))
-  ]
-  | no e ↦ simp (ne-eqb r 0 e, ne-eqb (x * 256 + r) 0 (λ z. e (omega arith)))
-]
-
 sure-byte : (b : ℕ) → b < 256 → eqb (bitAnd b 254) 0 ≡ ltb b 2
 sure-byte b h = elim (decLt b 2) [
   | yes l ↦ let e : bitAnd b 254 ≡ 0 = and-high b 7 1 ∙ omega arith in
@@ -67,9 +59,8 @@ module _ (m : List ℕ) (bytes : (i : ℕ) → getD m i 0 < 256) where
   unfolding sureFrom
   sure-word zero at = ap (λ (n : ℕ). eqb n 0) (and-zero-l 0)
   sure-word (suc k) at =
-      rw (and-block 8 (word k (suc at) m) (highs k) (getD m at 0) 254 (bytes at) (lit< tt))
-      (zero-sum (bitAnd (word k (suc at) m) (highs k)) (bitAnd (getD m at 0) 254)
-      ∙ rw (sure-byte (getD m at 0) (bytes at), sure-word k (suc at)))
+      zero-block (word k (suc at) m) (highs k) (getD m at 0) 254 (bytes at) (lit< tt)
+      ∙ rw (sure-byte (getD m at 0) (bytes at), sure-word k (suc at))
 
   pub eight-sure : (at n : ℕ)
       → n ≡ ((((((getD m (at + 7) 0 * 256 + getD m (at + 6) 0) * 256 + getD m (at + 5) 0) * 256

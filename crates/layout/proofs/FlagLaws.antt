@@ -12,7 +12,8 @@ use Rattle.layout.specs.Layout.{allowed, places, flagOf, fitsFrom, run}
 use Rattle.layout.specs.Words.{word, nonzeroBytes, flagPlaces}
 use Rattle.layout.proofs.ByteLaws.{bitOf, bit-small, nonzero-bit, one-zero, flag-test, fixed-test}
 use Rattle.layout.proofs.PartLaws.{fits-and}
-use Rattle.layout.proofs.WordLaws.{Bytes, zero-block}
+use Rattle.bits.proofs.ByteLaws.{zero-block}
+use Rattle.layout.proofs.WordLaws.{Bytes}
 
 -- ---- the bytes that are not 0
 -- the code's sum of a word

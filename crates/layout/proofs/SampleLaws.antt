@@ -13,7 +13,8 @@ use Rattle.layout.specs.Layout.{allowed, fitsFrom, run}
 use Rattle.layout.specs.Words.{word, eachBySample, samplePlace, samplePlaces}
 use Rattle.layout.proofs.ByteLaws.{moreOf, highOf, clear, sample-test, high-small, no-carry}
 use Rattle.layout.proofs.PartLaws.{fits-and}
-use Rattle.layout.proofs.WordLaws.{Bytes, zero-block}
+use Rattle.bits.proofs.ByteLaws.{zero-block}
+use Rattle.layout.proofs.WordLaws.{Bytes}
 
 -- the numbers for the bytes of a sample
 abbrev pub mores : List ℕ → List ℕ

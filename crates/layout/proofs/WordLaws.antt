@@ -1,13 +1,12 @@
--- Words of eight bytes: when they are bytes, where they stand in a string, and which of them are 0. Assumes nothing.
-use Prim.Native.Nat.{ℕ, zero, suc, _+_, _*_, _≤_, _<_}
+-- Words of eight bytes: when they are bytes, and where they stand in a string. Assumes nothing.
+use Prim.Native.Nat.{ℕ, zero, suc, _+_, _≤_, _<_}
 use native.Mathlib.Omega.{arith}
-use mathlib.Core.Path.{_≡_, refl, ap, _∙_}
-use mathlib.Core.Bool.{Bool, true, false, cond, _&&_}
+use mathlib.Core.Path.{_≡_}
+use mathlib.Core.Bool.{Bool, true, false, cond}
 use mathlib.Core.List.{List, [], _∷_}
-use lib.Dec.{eqb, leb}
-use lib.Bits.{bitAnd, and-block}
+use lib.Dec.{leb}
 use lib.ListN.{length, getD}
-use borrow.Author.Tests.{ne-eqb, le-leb, lt-leb}
+use borrow.Author.Tests.{le-leb, lt-leb}
 use Rattle.layout.specs.Layout.{run}
 use Rattle.layout.specs.Words.{enough}
 
@@ -23,17 +22,6 @@ pub bytes-of : (s : List ℕ) → EachByte s → Bytes s
 bytes-of [] h i = omega arith
 bytes-of (b ∷ s) h zero = h .0
 bytes-of (b ∷ s) h (suc i) = bytes-of s (h .1) i
-
--- ---- no bits in common: neither in the lowest bytes nor in the others
-zero-digits : (x r : ℕ) → eqb (x * 256 + r) 0 ≡ (eqb r 0 && eqb x 0)
-zero-digits zero zero = refl
-zero-digits (suc x) zero = rw (ne-eqb (suc x) 0 (λ z. omega arith)) (ne-eqb (suc x * 256 + 0) 0 (λ z. omega arith))
-zero-digits x (suc r) = rw (ne-eqb (suc r) 0 (λ z. omega arith)) (ne-eqb (x * 256 + suc r) 0 (λ z. omega arith))
-
-pub zero-block : (x y r q : ℕ) → r < 256 → q < 256
-    → eqb (bitAnd (x * 256 + r) (y * 256 + q)) 0 ≡ (eqb (bitAnd r q) 0 && eqb (bitAnd x y) 0)
-zero-block x y r q hr hq =
-    ap (λ (n : ℕ). eqb n 0) (and-block 8 x y r q hr hq) ∙ zero-digits (bitAnd x y) (bitAnd r q)
 
 -- ---- the bytes of a string
 pub bytes-enough : (at : ℕ) (s : List ℕ) → Bytes s → Bytes (enough at s)

@@ -1,0 +1,2 @@
+-- Laws of the bits of numbers.
+pub mod ByteLaws

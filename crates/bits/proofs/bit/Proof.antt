@@ -14,4 +14,4 @@ returns : tie.Need-returns
 returns c = byte-bit (c .args .on)
 
 pub bit-spec : {M : Type 1} → statement M
-bit-spec = tie.close (tie.spec (search needs) returns)
+bit-spec = tie.close (tie.spec (λ c. search needs) returns)

@@ -28,4 +28,7 @@ returns c =
     (bytes-enough (a .at) (now (a .s)) (λ i. omega (arith, known .shared-slice-known .given i))))
 
 pub eight-fit-spec : {M : Type 1} → statement M
-eight-fit-spec = tie.close (tie.spec (search needs) (search needs) (search needs) (search needs) (search needs) returns)
+eight-fit-spec =
+    tie.close
+    (tie.spec (λ c κs. search needs) (λ c κs. search needs) (λ c κs. search needs) (λ c κs. search needs)
+    (λ c κs. search needs) returns)

@@ -20,4 +20,7 @@ returns c =
     (bytes-enough (a .at) (now (a .s)) (λ i. omega (arith, known .shared-slice-known .given i))))
 
 pub flags-fit-spec : {M : Type 1} → statement M
-flags-fit-spec = tie.close (tie.spec (search needs) (search needs) (search needs) (search needs) (search needs) returns)
+flags-fit-spec =
+    tie.close
+    (tie.spec (λ c κs. search needs) (λ c κs. search needs) (λ c κs. search needs) (λ c κs. search needs)
+    (λ c κs. search needs) returns)

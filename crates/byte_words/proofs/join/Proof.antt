@@ -10,4 +10,4 @@ unfolding word
 returns c = omega (arith, c .join-eight .ensures)
 
 pub join-spec : {M : Type 1} → statement M
-join-spec = tie.close (tie.spec (search needs) returns)
+join-spec = tie.close (tie.spec (λ c κs. search needs) returns)

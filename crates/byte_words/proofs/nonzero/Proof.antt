@@ -17,4 +17,4 @@ returns : tie.Need-returns
 returns c = rw (c .before .join .ensures, c .join2 .ensures) (nonzero-word 8 (c .before .before .args .w))
 
 pub nonzero-spec : {M : Type 1} → statement M
-nonzero-spec = tie.close (tie.spec (search needs) (search needs) add-result returns)
+nonzero-spec = tie.close (tie.spec (λ c κs. search needs) (λ c κs. search needs) add-result returns)

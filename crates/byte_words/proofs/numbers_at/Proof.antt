@@ -31,4 +31,5 @@ returns c = let p = pairs c in λ i. record { first = p .first i; second = p .se
 pub numbers-at-spec : {M : Type 1} → statement M
 numbers-at-spec =
     tie.close
-    (tie.spec (search needs) (search needs) mul-pairs add-pairs (search needs) (search needs) (search needs) returns)
+    (tie.spec (λ c κs. search needs) (λ c κs. search needs) mul-pairs add-pairs (λ c. search needs) (λ c. search needs)
+    (λ c. search needs) returns)

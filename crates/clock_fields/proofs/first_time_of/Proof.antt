@@ -17,4 +17,4 @@ returns-2 : tie.Need-returns-2
 returns-2 c = numbered-unfit _ (sym (c .before .is-time .ensures) ∙ c .if1 .left)
 
 pub first-time-of-spec : {M : Type 1} → statement M
-first-time-of-spec = tie.close (tie.spec (search needs) time-from-requires returns returns-2)
+first-time-of-spec = tie.close (tie.spec (λ c κs. search needs) time-from-requires returns returns-2)

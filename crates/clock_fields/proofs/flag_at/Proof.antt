@@ -11,4 +11,4 @@ returns : tie.Need-returns
 returns c = eq-bits w32 {b = pos 1} (sfits-of (c .result .given)) (record { sfits = lit< tt })
 
 pub flag-at-spec : {M : Type 1} → statement M
-flag-at-spec = tie.close (tie.spec (search needs) (search needs) returns)
+flag-at-spec = tie.close (tie.spec (λ c. search needs) (λ c. search needs) returns)

@@ -14,4 +14,4 @@ returns : tie.Need-returns
 returns c = rw (kept w32 (c .result .given)) (toZ-ofZ (i16-fits _ (c .before .pre .1)))
 
 pub i16-at-spec : {M : Type 1} → statement M
-i16-at-spec = tie.close (tie.spec (search needs) (search needs) cast-result returns)
+i16-at-spec = tie.close (tie.spec (λ c. search needs) (λ c. search needs) cast-result returns)

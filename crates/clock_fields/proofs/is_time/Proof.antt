@@ -9,4 +9,7 @@ unfolding ranges timeRanges
 returns c = c .are-within .ensures
 
 pub is-time-spec : {M : Type 1} → statement M
-is-time-spec = tie.close (tie.spec (search needs) (search needs) (search needs) (search needs) (search needs) returns)
+is-time-spec =
+    tie.close
+    (tie.spec (λ c. search needs) (λ c. search needs) (λ c. search needs) (λ c. search needs) (λ c κs. search needs)
+    returns)

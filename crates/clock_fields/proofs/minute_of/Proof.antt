@@ -9,7 +9,7 @@ pub minute-of-spec : {M : Type 1} → statement M
 unfolding ranges minuteRanges timeRanges
 minute-of-spec =
     tie.close
-    (tie.spec (search needs) (search needs) (search needs)
+    (tie.spec (λ c. search needs) (λ c. search needs) (λ c κs. search needs)
     (λ c κs. all-fit minuteRanges _ (c .before .are-within .ensures) (c .if1 .taken))
     (λ c.
     let i = c .before in

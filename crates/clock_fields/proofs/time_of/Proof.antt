@@ -9,7 +9,7 @@ pub time-of-spec : {M : Type 1} → statement M
 unfolding timeRanges
 time-of-spec =
     tie.close
-    (tie.spec (search needs) (λ c κs. all-fit timeRanges _ (c .before .is-time .ensures) (c .if1 .taken))
+    (tie.spec (λ c κs. search needs) (λ c κs. all-fit timeRanges _ (c .before .is-time .ensures) (c .if1 .taken))
     (λ c.
     let i = c .before in
     numbered-all timeRanges _ (i .before .is-time .ensures) (i .if1 .taken) (c .time-from .ensures))

@@ -15,4 +15,4 @@ cast-result c =
     rw (kept w32 (c .result .given)) (upTo-fits w16 65535 (at (x .i) (now (x .z))) (lit< tt) (c .before .pre .1))
 
 pub u16-at-spec : {M : Type 1} → statement M
-u16-at-spec = tie.close (tie.spec (search needs) (search needs) cast-result (λ c. search needs))
+u16-at-spec = tie.close (tie.spec (λ c. search needs) (λ c. search needs) cast-result (λ c. search needs))

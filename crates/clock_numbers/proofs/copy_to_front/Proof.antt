@@ -34,5 +34,6 @@ returns c =
 pub copy-to-front-spec : {M : Type 1} → statement M
 copy-to-front-spec =
     tie.close
-    (tie.spec Inv-loop μ-loop (λ c. copied-none (now (c .args .numbers)) (now (c .args .fields))) (search needs)
-    (search needs) (search needs) (search needs) (search needs) (search needs) loop-again (search needs) returns)
+    (tie.spec Inv-loop μ-loop (λ c. copied-none (now (c .args .numbers)) (now (c .args .fields))) (λ c. omega arith)
+    (λ c. omega arith) (λ c. omega arith) (λ c. omega arith) (λ c. omega arith) (λ c. omega arith) loop-again
+    (λ c. search needs) returns)

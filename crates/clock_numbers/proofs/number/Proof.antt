@@ -10,4 +10,4 @@ returns : tie.Need-returns
 returns c = toZ-pos w32 (omega arith)
 
 pub number-spec : {M : Type 1} → statement M
-number-spec = tie.close (tie.spec (search needs) returns)
+number-spec = tie.close (tie.spec (λ c. search needs) returns)

@@ -16,4 +16,6 @@ returns c =
     ∙ simp (held w32 (n .number .ok) (n .number .ensures), held w32 (f .flag-number .ok) (f .flag-number .ensures))
 
 pub put-detail-spec : {M : Type 1} → statement M
-put-detail-spec = tie.close (tie.spec (search needs) (search needs) (search needs) (search needs) returns)
+put-detail-spec =
+    tie.close
+    (tie.spec (λ c κs. search needs) (λ c κs. search needs) (λ c κs. search needs) (λ c. search needs) returns)

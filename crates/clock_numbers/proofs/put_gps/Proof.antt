@@ -8,6 +8,6 @@ pub put-gps-spec : {M : Type 1} → statement M
 unfolding putAnswer
 put-gps-spec =
     tie.close
-    (tie.spec (search needs) (search needs) (search needs) (search needs) (search needs)
+    (tie.spec (λ c. search needs) (λ c κs. search needs) (λ c. search needs) (λ c κs. search needs) (λ c. search needs)
     (λ c. rw (c .before .before .before .before .answer .given .1) (c .before .put-position .ensures))
     (λ c. rw (c .before .before .answer2 .given .1, c .error-number .ensures)))

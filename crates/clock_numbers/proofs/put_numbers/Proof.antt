@@ -17,4 +17,4 @@ returns-2 c =
     put-room (now (x .numbers)) (now (x .fields)) (i .if1 .left) _ (c .before .copy-to-front .ensures)
 
 pub put-numbers-spec : {M : Type 1} → statement M
-put-numbers-spec = tie.close (tie.spec returns (search needs) (search needs) returns-2)
+put-numbers-spec = tie.close (tie.spec returns (λ c κs. search needs) (λ c. search needs) returns-2)

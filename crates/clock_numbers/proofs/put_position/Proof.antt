@@ -25,4 +25,4 @@ returns c =
     (toZ-ofZ (latitude-fits start), toZ-ofZ (longitude-fits start), held w32 (n .number .ok) (n .number .ensures))
 
 pub put-position-spec : {M : Type 1} → statement M
-put-position-spec = tie.close (tie.spec (search needs) (search needs) (search needs) returns)
+put-position-spec = tie.close (tie.spec (λ c κs. search needs) (λ c κs. search needs) (λ c. search needs) returns)

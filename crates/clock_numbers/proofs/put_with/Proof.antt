@@ -32,4 +32,6 @@ returns c =
 
 pub put-with-spec : {M : Type 1} → statement M
 put-with-spec =
-    tie.close (tie.spec (search needs) (search needs) slice-aggregate-put-numbers (search needs) (search needs) returns)
+    tie.close
+    (tie.spec (λ c κs. search needs) (λ c. search needs) slice-aggregate-put-numbers (λ c κs. search needs)
+    (λ c. search needs) returns)

@@ -88,5 +88,5 @@ read-minute-spec =
     tie.close
     (tie.spec returns all-sure-requires returns-2 read-eight-requires (λ c κs. sure (c .before))
     (λ c κs. sure (c .before .before)) (λ c κs. sure (c .before .before .before)) error-of-requires returns-3
-    (λ c κs. numbers (c .before .before)) (search needs) error-of-requires-2 returns-4
+    (λ c κs. numbers (c .before .before)) (λ c κs. search needs) error-of-requires-2 returns-4
     (λ c κs. numbers (c .before .before .before .before .before .before) .run) error-of-requires-3 returns-5 returns-6)

@@ -96,7 +96,7 @@ pub run-number-spec : {M : Type 1} → statement M
 run-number-spec =
     tie.close
     (tie.spec returns all-sure-requires returns-2 read-eight-requires (λ c κs. sure (c .before))
-    (λ c κs. sure (c .before .before)) (λ c κs. sure (c .before .before .before)) (search needs) returns-3
-    (λ c κs. numbers (c .before .before)) (search needs) (search needs) returns-4
-    (λ c κs. numbers (c .before .before .before .before .before .before) .run) (search needs) returns-5 (search needs)
-    minute-number-requires returns-6)
+    (λ c κs. sure (c .before .before)) (λ c κs. sure (c .before .before .before)) (λ c. search needs) returns-3
+    (λ c κs. numbers (c .before .before)) (λ c κs. search needs) (λ c. search needs) returns-4
+    (λ c κs. numbers (c .before .before .before .before .before .before) .run) (λ c. search needs) returns-5
+    (λ c κs. search needs) minute-number-requires returns-6)

@@ -30,5 +30,5 @@ write-run-requires c κs = rw (c .before .before .before .before .line-of .ensur
 pub write-minute-spec : {M : Type 1} → statement M
 write-minute-spec =
     tie.close
-    (tie.spec (search needs) (search needs) add-count array-share-prefix-line slice-aggregate-write-run
-    write-run-requires (search needs) (λ c. search needs))
+    (tie.spec (λ c κs. search needs) (λ c. search needs) add-count array-share-prefix-line slice-aggregate-write-run
+    write-run-requires (λ c. search needs) (λ c. search needs))

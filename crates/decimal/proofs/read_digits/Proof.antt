@@ -53,6 +53,6 @@ returns-3 c =
 pub read-digits-spec : {M : Type 1} → statement M
 read-digits-spec =
     tie.close
-    (tie.spec Inv-loop μ-loop returns loop-holds (search needs) (search needs) returns-2
-    (λ c. omega (arith, add-number c)) sub-number (λ c. omega (arith, add-number c)) add-number (search needs)
-    (search needs) loop-again returns-3)
+    (tie.spec Inv-loop μ-loop returns loop-holds (λ c. omega arith) (λ c κs. search needs) returns-2
+    (λ c. omega (arith, add-number c)) sub-number (λ c. omega (arith, add-number c)) add-number (λ c. omega arith)
+    (λ c. omega arith) loop-again returns-3)

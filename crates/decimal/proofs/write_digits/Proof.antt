@@ -31,4 +31,5 @@ returns-4 c =
 
 pub write-digits-spec : {M : Type 1} → statement M
 write-digits-spec =
-    tie.close (tie.spec returns (search needs) returns-2 returns-3 (search needs) (search needs) returns-4)
+    tie.close
+    (tie.spec returns (λ c κs. search needs) returns-2 returns-3 (λ c κs. search needs) (λ c. search needs) returns-4)

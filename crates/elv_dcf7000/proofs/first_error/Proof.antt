@@ -7,4 +7,4 @@ use Rattle.elv_dcf7000.proofs.first_error.Tie as tie
 
 pub first-error-spec : {M : Type 1} → statement M
 unfolding ascii elvLayout
-first-error-spec = tie.close (tie.spec (search needs) (search needs) (λ c. c .layout-error .ensures))
+first-error-spec = tie.close (tie.spec (λ c. search needs) (λ c κs. search needs) (λ c. c .layout-error .ensures))

@@ -22,4 +22,4 @@ returns c =
     (parts-fit (8 ∷ 8 ∷ 5 ∷ []) true 0 elvLayout (now (start .args .s)))
 
 pub fits-spec : {M : Type 1} → statement M
-fits-spec = tie.close (tie.spec (search needs) (search needs) (search needs) returns)
+fits-spec = tie.close (tie.spec (λ c κs. search needs) (λ c κs. search needs) (λ c κs. search needs) returns)

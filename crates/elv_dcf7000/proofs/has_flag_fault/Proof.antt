@@ -8,4 +8,4 @@ returns : tie.Need-returns
 returns c = flag-fault (c .before .before .pre .1)
 
 pub has-flag-fault-spec : {M : Type 1} → statement M
-has-flag-fault-spec = tie.close (tie.spec (search needs) (search needs) returns)
+has-flag-fault-spec = tie.close (tie.spec (λ c. search needs) (λ c. search needs) returns)

@@ -10,5 +10,5 @@ pub read-elv-spec : {M : Type 1} → statement M
 unfolding readElv elv elvLayout ascii
 read-elv-spec =
     tie.close
-    (tie.spec (search needs) (λ c. search reading) (search needs) (λ c κs. search reading) (λ c. search needs)
-    (search needs) (λ c. search reading))
+    (tie.spec (λ c κs. search needs) (λ c. search reading) (λ c κs. search needs) (λ c κs. search reading)
+    (λ c. search needs) (λ c κs. search needs) (λ c. search reading))

@@ -37,5 +37,5 @@ returns-3 c =
 pub read-fitting-spec : {M : Type 1} → statement M
 read-fitting-spec =
     tie.close
-    (tie.spec (λ c κs. search needs) returns sent-fields-requires (search needs) (search needs) (search needs)
-    (search needs) returns-2 returns-3)
+    (tie.spec (λ c κs. search needs) returns sent-fields-requires (λ c κs. search needs) (λ c. search needs)
+    (λ c κs. search needs) (λ c. search needs) returns-2 returns-3)

@@ -31,4 +31,6 @@ returns c =
 
 pub sent-fields-spec : {M : Type 1} → statement M
 sent-fields-spec =
-    tie.close (tie.spec (search needs) (search needs) (search needs) (search needs) (search needs) returns)
+    tie.close
+    (tie.spec (λ c κs. search needs) (λ c κs. search needs) (λ c. search needs) (λ c κs. search needs)
+    (λ c κs. search needs) returns)

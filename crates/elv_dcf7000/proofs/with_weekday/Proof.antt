@@ -14,5 +14,5 @@ pub with-weekday-spec : {M : Type 1} → statement M
 unfolding withWeekday
 with-weekday-spec =
     tie.close
-    (tie.spec (search needs)
+    (tie.spec (λ c κs. search needs)
     (λ c. simp (toZ-ofZ (offset-fits (c .before .before)), c .before .weekday-or-zero .ensures)))

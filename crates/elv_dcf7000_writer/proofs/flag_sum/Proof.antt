@@ -26,4 +26,5 @@ returns c = flagSum-bytes (c .args .summer) (c .args .change) (c .args .unsynchr
 pub flag-sum-spec : {M : Type 1} → statement M
 flag-sum-spec =
     tie.close
-    (tie.spec (search needs) (search needs) mul-result add-result (search needs) mul-result-2 add-result-2 returns)
+    (tie.spec (λ c. search needs) (λ c. search needs) mul-result add-result (λ c. search needs) mul-result-2
+    add-result-2 returns)

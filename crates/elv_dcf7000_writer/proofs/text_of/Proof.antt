@@ -10,4 +10,4 @@ unfolding elvText
 returns c = c .line-with .ensures ∙ simp (c .before .flag-sum .ensures)
 
 pub text-of-spec : {M : Type 1} → statement M
-text-of-spec = tie.close (tie.spec (search needs) (search needs) returns)
+text-of-spec = tie.close (tie.spec (λ c κs. search needs) (λ c κs. search needs) returns)

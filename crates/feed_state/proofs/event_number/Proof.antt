@@ -12,5 +12,5 @@ cast-result c =
 pub event-number-spec : {M : Type 1} → statement M
 event-number-spec =
     tie.close
-    (tie.spec (search needs) (search needs) cast-result (search needs) (λ c. search needs) (λ c. search needs)
-    (λ c. search needs))
+    (tie.spec (λ c. search needs) (λ c. search needs) cast-result (λ c. search needs) (λ c. search needs)
+    (λ c. search needs) (λ c. search needs))

@@ -42,4 +42,5 @@ returns-2 c =
 pub feed-spec : {M : Type 1} → statement M
 feed-spec =
     tie.close
-    (tie.spec returns (search needs) (search needs) store-requires event-number-requires (search needs) returns-2)
+    (tie.spec returns (λ c κs. search needs) (λ c κs. search needs) store-requires event-number-requires
+    (λ c. search needs) returns-2)

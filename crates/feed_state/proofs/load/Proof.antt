@@ -27,5 +27,5 @@ returns c =
 pub load-spec : {M : Type 1} → statement M
 load-spec =
     tie.close
-    (tie.spec slice-aggregate-write-bytes (search needs) (search needs) (search needs) cast-count (search needs)
-    (search needs) returns)
+    (tie.spec slice-aggregate-write-bytes (λ c. search needs) (λ c κs. search needs) (λ c. search needs) cast-count
+    (λ c. search needs) (λ c κs. search needs) returns)

@@ -8,7 +8,7 @@ pub write-gps-spec : {M : Type 1} → statement M
 unfolding writeAs
 write-gps-spec =
     tie.close
-    (tie.spec (search needs) (search needs) (search needs) (search needs) (search needs)
+    (tie.spec (λ c κs. search needs) (λ c. search needs) (λ c κs. search needs) (λ c. search needs) (λ c. search needs)
     (λ c.
     let t = c .before .before .before .before .before in
     rw (← (t .before .before .gps-of .ensures), t .g .given .1) (c .before .before .write-gps .ensures))

@@ -8,7 +8,7 @@ pub write-marks-spec : {M : Type 1} → statement M
 unfolding writeMinuteFrom
 write-marks-spec =
     tie.close
-    (tie.spec (search needs) (search needs) (search needs) (search needs) (search needs)
+    (tie.spec (λ c κs. search needs) (λ c. search needs) (λ c κs. search needs) (λ c. search needs) (λ c. search needs)
     (λ c.
     let t = c .before .before .before .before .before in
     rw (← (t .before .before .minute-of .ensures), t .a .given .1) (c .before .before .write-minute .ensures))

@@ -8,7 +8,7 @@ pub write-plain-spec : {M : Type 1} → statement M
 unfolding writePlain
 write-plain-spec =
     tie.close
-    (tie.spec (search needs) (search needs) (search needs) (search needs) (search needs)
+    (tie.spec (λ c κs. search needs) (λ c. search needs) (λ c κs. search needs) (λ c. search needs) (λ c. search needs)
     (λ c.
     let t = c .before .before .before .before .before in
     rw (← (t .before .before .time-of .ensures), t .t .given .1) (c .before .before .write-time .ensures))

@@ -28,4 +28,6 @@ returns-3 c =
 
 pub write-string-spec : {M : Type 1} → statement M
 write-string-spec =
-    tie.close (tie.spec returns (search needs) (search needs) returns-2 (search needs) (search needs) returns-3)
+    tie.close
+    (tie.spec returns (λ c κs. search needs) (λ c. search needs) returns-2 (λ c κs. search needs) (λ c. search needs)
+    returns-3)

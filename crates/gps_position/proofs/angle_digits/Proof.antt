@@ -8,4 +8,4 @@ returns : tie.Need-returns
 returns c = simp (c .before .four-aligned .ensures, c .four-digits .ensures, aligned-blank)
 
 pub angle-digits-spec : {M : Type 1} → statement M
-angle-digits-spec = tie.close (tie.spec (search needs) (search needs) returns)
+angle-digits-spec = tie.close (tie.spec (λ c κs. search needs) (λ c κs. search needs) returns)

@@ -22,4 +22,5 @@ cast-result c =
 pub height-spec : {M : Type 1} → statement M
 height-spec =
     tie.close
-    (tie.spec (search needs) (search needs) (search needs) (search needs) four-requires cast-result (search needs))
+    (tie.spec (λ c. search needs) (λ c. search needs) (λ c. search needs) (λ c. search needs) four-requires cast-result
+    (λ c. search needs))

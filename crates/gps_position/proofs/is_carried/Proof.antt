@@ -11,4 +11,4 @@ returns c =
     search (toZ-ofZ, sfits-of, c .before .before .before .size .ensures, c .before .size2 .ensures)
 
 pub is-carried-spec : {M : Type 1} → statement M
-is-carried-spec = tie.close (tie.spec (search needs) (search needs) returns)
+is-carried-spec = tie.close (tie.spec (λ c κs. search needs) (λ c κs. search needs) returns)

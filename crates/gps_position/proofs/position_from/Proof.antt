@@ -65,4 +65,6 @@ returns-2 c =
 
 pub position-from-spec : {M : Type 1} → statement M
 position-from-spec =
-    tie.close (tie.spec (search needs) (search needs) (search needs) cast-t11 (search needs) cast-t14 returns returns-2)
+    tie.close
+    (tie.spec (λ c κs. search needs) (λ c κs. search needs) (λ c κs. search needs) cast-t11 (λ c κs. search needs)
+    cast-t14 returns returns-2)

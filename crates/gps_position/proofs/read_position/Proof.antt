@@ -15,4 +15,5 @@ returns-3 : tie.Need-returns-3
 returns-3 c = position-no-digits _ (sym (c .before .digits-hold .ensures) ∙ c .if2 .left)
 
 pub read-position-spec : {M : Type 1} → statement M
-read-position-spec = tie.close (tie.spec returns (search needs) read-digits-requires (λ c. search needs) returns-3)
+read-position-spec =
+    tie.close (tie.spec returns (λ c κs. search needs) read-digits-requires (λ c. search needs) returns-3)

@@ -42,4 +42,5 @@ returns-4 : tie.Need-returns-4
 returns-4 c = sym (dated (c .before .before .before) ∙ simp (c .if3 .left))
 
 pub check-clock-spec : {M : Type 1} → statement M
-check-clock-spec = tie.close (tie.spec (search needs) returns (search needs) returns-2 returns-3 returns-4)
+check-clock-spec =
+    tie.close (tie.spec (λ c κs. search needs) returns (λ c κs. search needs) returns-2 returns-3 returns-4)

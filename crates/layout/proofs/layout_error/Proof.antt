@@ -9,8 +9,8 @@ pub layout-error-spec : {M : Type 1} → statement M
 unfolding layoutError
 layout-error-spec =
     tie.close
-    (tie.spec (λ c. search tests) (search needs) (λ c. search (tests, ← (c .before .first-offence .ensures)))
-    (search needs)
+    (tie.spec (λ c. search tests) (λ c κs. search needs) (λ c. search (tests, ← (c .before .first-offence .ensures)))
+    (λ c κs. search needs)
     (λ c.
     search (tests, ← (c .before .before .before .first-offence .ensures), ← (c .before .first-offence2 .ensures)))
     (λ c.

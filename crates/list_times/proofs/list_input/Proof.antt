@@ -1,4 +1,5 @@
 -- `list_times::list_input` is safe and ends: the turns that are left fall. Assumes nothing.
+use native.Mathlib.Omega.{arith}
 use borrow.Author.Needs.{needs}
 use Rattle.list_times.proofs.list_input.Statement.{statement}
 use Rattle.list_times.proofs.list_input.Tie as tie
@@ -12,5 +13,5 @@ abbrev μ-loop : tie.MeasureT-loop
 pub list-input-spec : {M : Type 1} → statement M
 list-input-spec =
     tie.close
-    (tie.spec Inv-loop μ-loop (λ c κs. tt) (λ c κs. tt) (λ c. tt) (search needs) (λ c. tt) (search needs) (search needs)
-    (search needs) (search needs) (search needs) (λ c. tt) (λ c. tt) (λ c. tt))
+    (tie.spec Inv-loop μ-loop (λ c κs. tt) (λ c κs. tt) (λ c. tt) (λ c κs. search needs) (λ c. tt) (λ c. search needs)
+    (λ c. search needs) (λ c κs. search needs) (λ c. omega arith) (λ c. omega arith) (λ c. tt) (λ c. tt) (λ c. tt))

@@ -38,5 +38,5 @@ loop-again c =
 pub write-lines-spec : {M : Type 1} → statement M
 write-lines-spec =
     tie.close
-    (tie.spec Inv-loop μ-loop (search needs) (search needs) (search needs) (search needs) (search needs) (search needs)
-    (search needs) add-i loop-less loop-again (search needs))
+    (tie.spec Inv-loop μ-loop (λ c. omega arith) (λ c. omega arith) (λ c. search needs) (λ c. search needs)
+    (λ c κs. search needs) (λ c κs. search needs) (λ c. search needs) add-i loop-less loop-again (λ c. search needs))

@@ -11,4 +11,6 @@ slice-aggregate-write c = sym (length-take-le _ _ (omega arith))
 
 pub write-start-spec : {M : Type 1} → statement M
 write-start-spec =
-    tie.close (tie.spec (search needs) (search needs) slice-aggregate-write (search needs) (search needs))
+    tie.close
+    (tie.spec (λ c κs. search needs) (λ c. search needs) slice-aggregate-write (λ c κs. search needs)
+    (λ c. search needs))

@@ -25,5 +25,5 @@ returns c =
 pub put-line-spec : {M : Type 1} → statement M
 put-line-spec =
     tie.close
-    (tie.spec (search needs) slice-aggregate-write-bytes (search needs) (search needs) (search needs) (search needs)
-    (search needs) returns)
+    (tie.spec (λ c. search needs) slice-aggregate-write-bytes (λ c. search needs) (λ c. search needs)
+    (λ c. search needs) (λ c κs. search needs) (λ c. search needs) returns)

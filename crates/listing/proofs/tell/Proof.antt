@@ -20,4 +20,6 @@ returns c =
 
 pub tell-spec : {M : Type 1} → statement M
 tell-spec =
-    tie.close (tie.spec (search needs) (λ c. search needs) entry-at-requires (search needs) (search needs) returns)
+    tie.close
+    (tie.spec (λ c κs. search needs) (λ c. search needs) entry-at-requires (λ c κs. search needs) (λ c κs. search needs)
+    returns)

@@ -22,4 +22,5 @@ returns c =
 pub write-totals-spec : {M : Type 1} → statement M
 write-totals-spec =
     tie.close
-    (tie.spec (search needs) array-share-prefix-text slice-aggregate-write-bytes (search needs) (search needs) returns)
+    (tie.spec (λ c κs. search needs) array-share-prefix-text slice-aggregate-write-bytes (λ c κs. search needs)
+    (λ c. search needs) returns)

@@ -13,4 +13,4 @@ returns c =
     simp (time .numbers-at .ensures, numbers-fit (time .before .before .pre .1))
 
 pub mismatch-spec : {M : Type 1} → statement M
-mismatch-spec = tie.close (tie.spec (search needs) (search needs) returns)
+mismatch-spec = tie.close (tie.spec (λ c κs. search needs) (λ c. search needs) returns)

@@ -23,5 +23,5 @@ returns-2 c = rw (c .before .e .given .1) at (answer (c .before .before .before)
 pub read-clock-spec : {M : Type 1} → statement M
 read-clock-spec =
     tie.close
-    (tie.spec (λ c κs. search needs) (λ c κs. search needs) (search needs) (search needs) (search needs) returns
-    returns-2)
+    (tie.spec (λ c κs. search needs) (λ c κs. search needs) (λ c κs. search needs) (λ c. search needs)
+    (λ c. search needs) returns returns-2)

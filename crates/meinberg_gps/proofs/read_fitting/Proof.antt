@@ -27,5 +27,5 @@ returns-3 c =
 pub read-fitting-spec : {M : Type 1} → statement M
 read-fitting-spec =
     tie.close
-    (tie.spec (λ c κs. search needs) returns (search needs) (search needs) (λ c κs. search needs) (search needs)
-    returns-2 returns-3)
+    (tie.spec (λ c κs. search needs) returns (λ c κs. search needs) (λ c. search needs) (λ c κs. search needs)
+    (λ c. search needs) returns-2 returns-3)

@@ -10,5 +10,5 @@ pub read-gps-spec : {M : Type 1} → statement M
 unfolding readGps gps gpsLayout ascii
 read-gps-spec =
     tie.close
-    (tie.spec (search needs) (λ c. search reading) (search needs) (λ c κs. search reading) (λ c. search needs)
-    (search needs) (λ c. search reading))
+    (tie.spec (λ c κs. search needs) (λ c. search reading) (λ c κs. search needs) (λ c κs. search reading)
+    (λ c. search needs) (λ c κs. search needs) (λ c. search reading))

@@ -7,5 +7,5 @@ use Rattle.meinberg_gps_writer.proofs.write_gps.Tie as tie
 pub write-gps-spec : {M : Type 1} → statement M
 write-gps-spec =
     tie.close
-    (tie.spec (search needs) (search needs) (search needs) (search needs) (search needs) (search needs)
-    (λ c. search writes))
+    (tie.spec (λ c κs. search needs) (λ c κs. search needs) (λ c κs. search needs) (λ c. search needs)
+    (λ c κs. search needs) (λ c. search needs) (λ c. search writes))

@@ -29,4 +29,6 @@ returns c =
     (parts-fit (8 ∷ 8 ∷ 8 ∷ 8 ∷ []) true 0 pzfLayout (now (start .args .s)))
 
 pub fits-spec : {M : Type 1} → statement M
-fits-spec = tie.close (tie.spec (search needs) (search needs) (search needs) (search needs) returns)
+fits-spec =
+    tie.close
+    (tie.spec (λ c κs. search needs) (λ c κs. search needs) (λ c κs. search needs) (λ c κs. search needs) returns)

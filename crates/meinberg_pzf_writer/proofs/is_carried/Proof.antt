@@ -20,4 +20,4 @@ returns c =
     (simp (toZ-ofZ (offset-fits (utc .before .before)), zone .offset-of .ensures, utc .same-offset .ensures))
 
 pub is-carried-spec : {M : Type 1} → statement M
-is-carried-spec = tie.close (tie.spec (search needs) (search needs) (search needs) returns)
+is-carried-spec = tie.close (tie.spec (λ c κs. search needs) (λ c κs. search needs) (λ c κs. search needs) returns)

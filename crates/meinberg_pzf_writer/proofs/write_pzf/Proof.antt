@@ -10,5 +10,5 @@ pub write-pzf-spec : {M : Type 1} → statement M
 unfolding writePzf pzf
 write-pzf-spec =
     tie.close
-    (tie.spec (search needs) (search needs) (search needs) (search needs) (search needs) (search needs)
-    (λ c. search (clock-writes decides)))
+    (tie.spec (λ c κs. search needs) (λ c κs. search needs) (λ c κs. search needs) (λ c. search needs)
+    (λ c κs. search needs) (λ c. search needs) (λ c. search (clock-writes decides)))

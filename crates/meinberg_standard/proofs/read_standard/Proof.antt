@@ -10,5 +10,5 @@ pub read-standard-spec : {M : Type 1} → statement M
 unfolding readStandard standard standardLayout ascii
 read-standard-spec =
     tie.close
-    (tie.spec (search needs) (λ c. search reading) (search needs) (λ c κs. search reading) (search needs)
-    (λ c. search reading) (search needs) (λ c. search reading))
+    (tie.spec (λ c κs. search needs) (λ c. search reading) (λ c κs. search needs) (λ c κs. search reading)
+    (λ c κs. search needs) (λ c. search reading) (λ c κs. search needs) (λ c. search reading))

@@ -8,4 +8,5 @@ pub announced-letter-spec : {M : Type 1} → statement M
 unfolding announcedLetter
 announced-letter-spec =
     tie.close
-    (tie.spec (λ c. simp (c .if1 .taken)) (search needs) (λ c. simp (c .letter-if .ensures, c .before .if1 .left)))
+    (tie.spec (λ c. simp (c .if1 .taken)) (λ c κs. search needs)
+    (λ c. simp (c .letter-if .ensures, c .before .if1 .left)))

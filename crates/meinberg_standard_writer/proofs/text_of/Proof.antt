@@ -26,4 +26,7 @@ returns c =
     )
 
 pub text-of-spec : {M : Type 1} → statement M
-text-of-spec = tie.close (tie.spec (search needs) (search needs) (search needs) (search needs) (search needs) returns)
+text-of-spec =
+    tie.close
+    (tie.spec (λ c κs. search needs) (λ c κs. search needs) (λ c κs. search needs) (λ c κs. search needs)
+    (λ c κs. search needs) returns)

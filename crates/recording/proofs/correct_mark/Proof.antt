@@ -41,5 +41,5 @@ returns-4 c =
 pub correct-mark-spec : {M : Type 1} → statement M
 correct-mark-spec =
     tie.close
-    (tie.spec (search needs) returns returns-2 returns-3 (search needs) update-requires (search needs) (search needs)
-    returns-4)
+    (tie.spec (λ c κs. search needs) returns returns-2 returns-3 (λ c κs. search needs) update-requires
+    (λ c. search needs) (λ c. search needs) returns-4)

@@ -17,4 +17,4 @@ returns-2 c =
     fill-done _ _ _ (sym (d .before .is-unfit .ensures) ∙ d .if1 .left) (c .before .before .fill .ensures)
 
 pub fill-outcomes-spec : {M : Type 1} → statement M
-fill-outcomes-spec = tie.close (tie.spec (search needs) returns fill-requires (search needs) returns-2)
+fill-outcomes-spec = tie.close (tie.spec (λ c κs. search needs) returns fill-requires (λ c. search needs) returns-2)

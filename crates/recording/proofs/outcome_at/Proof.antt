@@ -9,4 +9,5 @@ pub outcome-at-spec : {M : Type 1} → statement M
 unfolding outcomeAt
 outcome-at-spec =
     tie.close
-    (tie.spec (λ c. search tests) (λ c. search tests) (search needs) (λ c. search (tests, c .number-at .ensures)))
+    (tie.spec (λ c. search tests) (λ c. search tests) (λ c κs. search needs)
+    (λ c. search (tests, c .number-at .ensures)))

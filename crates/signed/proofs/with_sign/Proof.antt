@@ -30,4 +30,4 @@ returns-2 c =
     simp (toZ-pos w64 h, c .if1 .left)
 
 pub with-sign-spec : {M : Type 1} → statement M
-with-sign-spec = tie.close (tie.spec (search needs) sub-result returns returns-2)
+with-sign-spec = tie.close (tie.spec (λ c. search needs) sub-result returns returns-2)

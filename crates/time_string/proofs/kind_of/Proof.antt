@@ -9,5 +9,5 @@ pub kind-of-spec : {M : Type 1} → statement M
 unfolding kindOf
 kind-of-spec =
     tie.close
-    (tie.spec (λ c. search tests) (search needs) (λ c. search tests) (λ c. search tests) (λ c. search tests)
+    (tie.spec (λ c. search tests) (λ c. search needs) (λ c. search tests) (λ c. search tests) (λ c. search tests)
     (λ c. search tests))

@@ -8,7 +8,8 @@ pub read-spec : {M : Type 1} → statement M
 unfolding readAs
 read-spec =
     tie.close
-    (tie.spec (search needs) (search needs) (search needs) (search needs) (search needs) (search needs) (search needs)
-    (search needs) (search needs) (search needs) (search needs) (search needs)
+    (tie.spec (λ c. search needs) (λ c κs. search needs) (λ c κs. search needs) (λ c. search needs)
+    (λ c κs. search needs) (λ c κs. search needs) (λ c. search needs) (λ c κs. search needs) (λ c κs. search needs)
+    (λ c. search needs) (λ c κs. search needs) (λ c κs. search needs)
     (λ c. rw (c .before .before .enum-told .given .1) (cc)) (λ c. rw (c .before .before .enum-told2 .given .1) (cc))
     (λ c. rw (c .before .before .enum-told3 .given .1) (cc)) (λ c. rw (c .before .before .enum-told4 .given .1) (cc)))

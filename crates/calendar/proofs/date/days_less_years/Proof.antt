@@ -23,6 +23,6 @@ sub-result-2 c = let k = known _ _ _ (c .pre) in omega (arith, march c)
 pub days-less-years-spec : {M : Type 1} → statement M
 days-less-years-spec =
     tie.close
-    (tie.spec sub-years (search needs) (search needs) (search needs) (λ c. omega (arith, march c)) (search needs)
-    (λ c. omega (arith, march c)) (λ c. omega (arith, march c)) sub-result (λ c. omega (arith, march c)) sub-result-2
-    (λ c. days-sum _ _ _ (c .pre)))
+    (tie.spec sub-years (λ c. search needs) (λ c. search needs) (λ c. search needs) (λ c. omega (arith, march c))
+    (λ c. search needs) (λ c. omega (arith, march c)) (λ c. omega (arith, march c)) sub-result
+    (λ c. omega (arith, march c)) sub-result-2 (λ c. days-sum _ _ _ (c .pre)))

@@ -13,4 +13,5 @@ add-result c = omega (arith, c .days-less-years .ensures, days-small _ _ _ (c .b
 
 pub days-since-epoch-spec : {M : Type 1} → statement M
 days-since-epoch-spec =
-    tie.close (tie.spec sub-result (search needs) (search needs) (λ c κs. search needs) add-result (search needs))
+    tie.close
+    (tie.spec sub-result (λ c. search needs) (λ c. search needs) (λ c κs. search needs) add-result (λ c. search needs))

@@ -12,4 +12,4 @@ returns-2 : tie.Need-returns-2
 returns-2 c = simp (weekday-answer, ← (c .before .weekday-or-zero .ensures), ne-eqb _ _ (c .if1 .left))
 
 pub weekday-of-spec : {M : Type 1} → statement M
-weekday-of-spec = tie.close (tie.spec (search needs) returns (search needs) returns-2)
+weekday-of-spec = tie.close (tie.spec (λ c κs. search needs) returns (λ c. search needs) returns-2)

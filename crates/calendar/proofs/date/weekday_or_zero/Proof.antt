@@ -37,7 +37,7 @@ returns-2 c = simp (← (c .before .is-known-date .ensures), c .if1 .left)
 pub weekday-or-zero-spec : {M : Type 1} → statement M
 weekday-or-zero-spec =
     tie.close
-    (tie.spec (search needs) sub-days (search needs) add-days (λ c κs. dated c) (λ c. omega (arith, small c))
-    (λ c κs. small c) (λ c. omega (arith, small (c .before), c .weeks .ensures)) (λ c. omega (arith, c .weeks .ensures))
-    (λ c. omega (arith, small (c .before), c .weeks .ensures))
+    (tie.spec (λ c κs. search needs) sub-days (λ c. search needs) add-days (λ c κs. dated c)
+    (λ c. omega (arith, small c)) (λ c κs. small c) (λ c. omega (arith, small (c .before), c .weeks .ensures))
+    (λ c. omega (arith, c .weeks .ensures)) (λ c. omega (arith, small (c .before), c .weeks .ensures))
     (λ c. omega (arith, small (c .before), c .weeks .ensures)) returns returns-2)

@@ -8,4 +8,4 @@ returns : tie.Need-returns
 returns c = weeks-of (c .args .days) (c .pre)
 
 pub weeks-spec : {M : Type 1} → statement M
-weeks-spec = tie.close (tie.spec (search needs) returns)
+weeks-spec = tie.close (tie.spec (λ c. search needs) returns)

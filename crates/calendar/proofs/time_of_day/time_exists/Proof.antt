@@ -18,4 +18,4 @@ returns-2 c =
     simp (utc, le-ltb _ _ (c .before .if1 .left), and-assoc)
 
 pub time-exists-spec : {M : Type 1} → statement M
-time-exists-spec = tie.close (tie.spec returns (search needs) returns-2)
+time-exists-spec = tie.close (tie.spec returns (λ c κs. search needs) returns-2)

@@ -44,5 +44,5 @@ returns c = rw (held c) (above c .same)
 pub utc-minute-spec : {M : Type 1} → statement M
 utc-minute-spec =
     tie.close
-    (tie.spec (search needs) (search needs) (search needs) (search needs) cast-shifted-2 sub-shifted cast-result
-    returns)
+    (tie.spec (λ c. search needs) (λ c. search needs) (λ c. search needs) (λ c. search needs) cast-shifted-2 sub-shifted
+    cast-result returns)

@@ -41,5 +41,6 @@ returns c =
 pub instant-of-spec : {M : Type 1} → statement M
 instant-of-spec =
     tie.close
-    (tie.spec days-since-epoch-requires (search needs) (search needs) (search needs) (search needs) (search needs)
-    (search needs) (search needs) (search needs) (search needs) (search needs) to-utc-requires returns)
+    (tie.spec days-since-epoch-requires (λ c. search needs) (λ c. search needs) (λ c. search needs) (λ c. search needs)
+    (λ c. search needs) (λ c. search needs) (λ c. search needs) (λ c. search needs) (λ c. search needs)
+    (λ c. search needs) to-utc-requires returns)

@@ -20,4 +20,4 @@ returns c =
     simp (toZ-ofZ f, b .offset-in-range .ensures, d .time-exists .ensures, k .is-known-date .ensures)
 
 pub is-valid-spec : {M : Type 1} → statement M
-is-valid-spec = tie.close (tie.spec (search needs) (search needs) (search needs) returns)
+is-valid-spec = tie.close (tie.spec (λ c κs. search needs) (λ c κs. search needs) (λ c κs. search needs) returns)

@@ -37,4 +37,4 @@ returns c =
     toZ-ofZ (sub-result c) ∙ rw (toZ-pos w64 h, widened w64 tt (c .fits .offset), toZ-ofZ (seconds-fit c))
 
 pub to-utc-spec : {M : Type 1} → statement M
-to-utc-spec = tie.close (tie.spec (search needs) cast-result-2 mul-result sub-result returns)
+to-utc-spec = tie.close (tie.spec (λ c. search needs) cast-result-2 mul-result sub-result returns)

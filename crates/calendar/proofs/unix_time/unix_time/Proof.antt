@@ -24,4 +24,4 @@ unfolding unixTime
 returns-2 c = simp (← (c .before .is-valid .ensures), c .if1 .left)
 
 pub unix-time-spec : {M : Type 1} → statement M
-unix-time-spec = tie.close (tie.spec (search needs) instant-of-requires returns returns-2)
+unix-time-spec = tie.close (tie.spec (λ c κs. search needs) instant-of-requires returns returns-2)

@@ -7,4 +7,4 @@ returns : tie.Need-returns
 returns c = simp (c .parity .ensures)
 
 pub is-odd-spec : {M : Type 1} → statement M
-is-odd-spec = tie.close (tie.spec (search needs) returns)
+is-odd-spec = tie.close (tie.spec (λ c κs. search needs) returns)

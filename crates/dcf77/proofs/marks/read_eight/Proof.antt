@@ -24,4 +24,5 @@ returns c =
 pub read-eight-spec : {M : Type 1} → statement M
 read-eight-spec =
     tie.close
-    (tie.spec (search needs) (search needs) (search needs) mul-result add-result mul-result-2 (search needs) returns)
+    (tie.spec (λ c κs. search needs) (λ c. search needs) (λ c κs. search needs) mul-result add-result mul-result-2
+    (λ c. search needs) returns)

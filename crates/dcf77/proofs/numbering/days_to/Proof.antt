@@ -21,4 +21,4 @@ returns-2 c =
     absurd (omega arith)
 
 pub days-to-spec : {M : Type 1} → statement M
-days-to-spec = tie.close (tie.spec (search needs) (search needs) (search needs) returns returns-2)
+days-to-spec = tie.close (tie.spec (λ c κs. search needs) (λ c. search needs) (λ c. search needs) returns returns-2)

@@ -9,5 +9,5 @@ use Rattle.dcf77.proofs.reading.date_error.Tie as tie
 pub date-error-spec : {M : Type 1} → statement M
 date-error-spec =
     tie.close
-    (tie.spec (λ c. search first) (search needs) (λ c. search (first, ap not (c .before .date-exists .ensures)))
+    (tie.spec (λ c. search first) (λ c κs. search needs) (λ c. search (first, ap not (c .before .date-exists .ensures)))
     (λ c. search (first, ap not (c .before .date-exists .ensures))))

@@ -11,4 +11,4 @@ returns-2 : tie.Need-returns-2
 returns-2 c = simp (ne-eqb _ _ (c .if1 .left))
 
 pub is-leap-fault-spec : {M : Type 1} → statement M
-is-leap-fault-spec = tie.close (tie.spec (search needs) (search needs) returns returns-2)
+is-leap-fault-spec = tie.close (tie.spec (λ c. search needs) (λ c. search needs) returns returns-2)

@@ -8,5 +8,5 @@ use Rattle.dcf77.proofs.reading.marks_error.Tie as tie
 pub marks-error-spec : {M : Type 1} → statement M
 marks-error-spec =
     tie.close
-    (tie.spec (search needs) (search needs) (λ c. search first) (search needs) (search needs)
-    (λ c. search (first, eq-eqb)) (search needs) (λ c. search (first, ne-eqb _ _ (c .before .if2 .left))))
+    (tie.spec (λ c. search needs) (λ c. search needs) (λ c. search first) (λ c. search needs) (λ c. search needs)
+    (λ c. search (first, eq-eqb)) (λ c κs. search needs) (λ c. search (first, ne-eqb _ _ (c .before .if2 .left))))

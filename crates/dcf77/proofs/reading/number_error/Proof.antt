@@ -10,6 +10,7 @@ use Rattle.dcf77.proofs.reading.number_error.Tie as tie
 pub number-error-spec : {M : Type 1} → statement M
 number-error-spec =
     tie.close
-    (tie.spec (search needs) (λ c. search first) (search needs) (λ c. search first) (search needs) (λ c. search first)
-    (search needs) (λ c. search (first, ap not (c .before .digits-fit .ensures)))
+    (tie.spec (λ c κs. search needs) (λ c. search first) (λ c κs. search needs) (λ c. search first)
+    (λ c κs. search needs) (λ c. search first) (λ c κs. search needs)
+    (λ c. search (first, ap not (c .before .digits-fit .ensures)))
     (λ c. search (first, ap not (c .before .digits-fit .ensures))))

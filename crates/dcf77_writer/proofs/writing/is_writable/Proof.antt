@@ -19,4 +19,4 @@ returns c =
     simp (known .before .fields-fit .ensures, known .is-known-date .ensures, zone)
 
 pub is-writable-spec : {M : Type 1} → statement M
-is-writable-spec = tie.close (tie.spec (search needs) (search needs) (search needs) returns)
+is-writable-spec = tie.close (tie.spec (λ c κs. search needs) (λ c κs. search needs) (λ c κs. search needs) returns)

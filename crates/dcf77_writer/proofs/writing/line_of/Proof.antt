@@ -9,4 +9,4 @@ returns : tie.Need-returns
 returns c = c .put-bits .ensures ∙ spells-pad (c .before .spell-run .ensures)
 
 pub line-of-spec : {M : Type 1} → statement M
-line-of-spec = tie.close (tie.spec (search needs) (search needs) returns)
+line-of-spec = tie.close (tie.spec (λ c κs. search needs) (λ c κs. search needs) returns)

@@ -10,5 +10,5 @@ returns c = rw (c .parity .ensures) (spells-number 3 (c .before .args .minute))
 pub spell-minute-spec : {M : Type 1} → statement M
 spell-minute-spec =
     tie.close
-    (tie.spec (search needs) (search needs) (search needs) (search needs) (search needs) (search needs) (search needs)
-    returns)
+    (tie.spec (λ c. search needs) (λ c. search needs) (λ c. search needs) (λ c. search needs) (λ c κs. search needs)
+    (λ c. search needs) (λ c. search needs) returns)

@@ -15,4 +15,4 @@ returns c =
     rw (reads-writable, ← run, ← (r .is-writable .ensures)) (w .write-bytes .ensures)
 
 pub write-run-spec : {M : Type 1} → statement M
-write-run-spec = tie.close (tie.spec (search needs) (search needs) (search needs) returns)
+write-run-spec = tie.close (tie.spec (λ c κs. search needs) (λ c κs. search needs) (λ c. search needs) returns)

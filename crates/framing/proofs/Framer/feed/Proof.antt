@@ -14,4 +14,6 @@ returns-2 : tie.Need-returns-2
 returns-2 c = c .feed-all2 .ensures ∙ ap (feedOf _) (sym (take-all _ _ (c .before .if1 .left)))
 
 pub feed-spec : {M : Type 1} → statement M
-feed-spec = tie.close (tie.spec slice-aggregate-feed-all (search needs) (search needs) (λ c. search needs) returns-2)
+feed-spec =
+    tie.close
+    (tie.spec slice-aggregate-feed-all (λ c κs. search needs) (λ c κs. search needs) (λ c. search needs) returns-2)

@@ -55,6 +55,7 @@ returns-3 c =
 pub feed-all-spec : {M : Type 1} → statement M
 feed-all-spec =
     tie.close
-    (tie.spec Inv-loop μ-loop (λ c. taken-none _ _) (search needs) (search needs) (search needs) (search needs) add-i
-    (search needs) returns (search needs) (search needs) (search needs) (search needs) (search needs) returns-2
-    (search needs) loop-again (search needs) returns-3)
+    (tie.spec Inv-loop μ-loop (λ c. taken-none _ _) (λ c. omega arith) (λ c. search needs) (λ c. search needs)
+    (λ c κs. search needs) add-i (λ c κs. search needs) returns (λ c. omega arith) (λ c κs. search needs)
+    (λ c. omega arith) (λ c κs. search needs) (λ c κs. search needs) returns-2 (λ c. omega arith) loop-again
+    (λ c κs. search needs) returns-3)

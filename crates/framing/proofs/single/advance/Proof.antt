@@ -43,5 +43,6 @@ returns-6 c =
 pub advance-spec : {M : Type 1} → statement M
 advance-spec =
     tie.close
-    (tie.spec (search needs) (λ c. sym (step-stx _ _ (c .if1 .taken))) (search needs) (search needs) (search needs)
-    element-write-bytes-2 add-kept (search needs) returns-2 returns-3 returns-4 returns-5 returns-6)
+    (tie.spec (λ c. search needs) (λ c. sym (step-stx _ _ (c .if1 .taken))) (λ c κs. search needs) (λ c. search needs)
+    (λ c. search needs) element-write-bytes-2 add-kept (λ c. search needs) returns-2 returns-3 returns-4 returns-5
+    returns-6)

@@ -12,7 +12,7 @@ returns-4 c =
 pub place-spec : {M : Type 1} → statement M
 place-spec =
     tie.close
-    (tie.spec (λ c. sym (place-more _ _ (c .if1 .taken))) (search needs) (search needs) (search needs)
+    (tie.spec (λ c. sym (place-more _ _ (c .if1 .taken))) (λ c. search needs) (λ c. search needs) (λ c. search needs)
     (λ c. simp (c .enum-told .given .1, place-outside))
     (λ c. simp (c .before .enum-told2 .given .1, place-inside _ (c .if2 .taken))) returns-4
     (λ c. simp (c .enum-told3 .given .1, place-overlong _ (c .before .before .if1 .left))))

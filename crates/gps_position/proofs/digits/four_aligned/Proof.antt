@@ -12,4 +12,4 @@ returns c =
     simp (and-true, d .before .is-digit .ensures, d .is-digit2 .ensures, c .is-digit3 .ensures)
 
 pub four-aligned-spec : {M : Type 1} → statement M
-four-aligned-spec = tie.close (tie.spec (search needs) (search needs) (search needs) returns)
+four-aligned-spec = tie.close (tie.spec (λ c κs. search needs) (λ c κs. search needs) (λ c κs. search needs) returns)

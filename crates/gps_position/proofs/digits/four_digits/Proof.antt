@@ -13,4 +13,6 @@ returns c =
     simp (and-true, e .before .is-digit .ensures, e .is-digit2 .ensures, d .is-digit3 .ensures, c .is-digit4 .ensures)
 
 pub four-digits-spec : {M : Type 1} → statement M
-four-digits-spec = tie.close (tie.spec (search needs) (search needs) (search needs) (search needs) returns)
+four-digits-spec =
+    tie.close
+    (tie.spec (λ c κs. search needs) (λ c κs. search needs) (λ c κs. search needs) (λ c κs. search needs) returns)

@@ -11,4 +11,6 @@ returns c =
 
 pub aligned-text-spec : {M : Type 1} → statement M
 aligned-text-spec =
-    tie.close (tie.spec (search needs) (search needs) (search needs) (search needs) (search needs) returns)
+    tie.close
+    (tie.spec (λ c κs. search needs) (λ c κs. search needs) (λ c κs. search needs) (λ c. search needs)
+    (λ c. search needs) returns)

@@ -21,5 +21,5 @@ returns c =
 pub angle-text-spec : {M : Type 1} → statement M
 angle-text-spec =
     tie.close
-    (tie.spec (search needs) (search needs) (search needs) (search needs) (λ c. lit< tt) (λ c. lit< tt) (λ c. lit< tt)
-    (λ c. lit< tt) (λ c. lit< tt) (λ c. lit< tt) (λ c. lit< tt) returns)
+    (tie.spec (λ c κs. search needs) (λ c κs. search needs) (λ c κs. search needs) (λ c κs. search needs) (λ c. lit< tt)
+    (λ c. lit< tt) (λ c. lit< tt) (λ c. lit< tt) (λ c. lit< tt) (λ c. lit< tt) (λ c. lit< tt) returns)

@@ -7,4 +7,5 @@ use Rattle.gps_position.proofs.text.digit_or_blank.Tie as tie
 
 pub digit-or-blank-spec : {M : Type 1} → statement M
 unfolding blankOr
-digit-or-blank-spec = tie.close (tie.spec (λ c. search tests) (search needs) (search needs) (λ c. search tests))
+digit-or-blank-spec =
+    tie.close (tie.spec (λ c. search tests) (λ c. search needs) (λ c. search needs) (λ c. search tests))

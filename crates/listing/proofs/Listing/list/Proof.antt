@@ -52,5 +52,5 @@ pub list-spec : {M : Type 1} → statement M
 list-spec =
     tie.close
     (tie.spec Inv-loop μ-loop (λ c. written-none _ _ _) sub-if1 (λ c. c .before .before .loop .inv .same) returns
-    (search needs) (search needs) (search needs) (search needs) put-line-requires add-at add-i loop-less loop-again
-    (λ c. c .before .loop .inv .same) returns-2)
+    (λ c. omega arith) (λ c. search needs) (λ c. search needs) (λ c κs. search needs) put-line-requires add-at add-i
+    loop-less loop-again (λ c. c .before .loop .inv .same) returns-2)

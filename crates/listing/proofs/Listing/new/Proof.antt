@@ -7,4 +7,4 @@ returns : tie.Need-returns
 returns c = simp (c .new .ensures)
 
 pub new-spec : {M : Type 1} → statement M
-new-spec = tie.close (tie.spec (search needs) returns)
+new-spec = tie.close (tie.spec (λ c κs. search needs) returns)

@@ -28,5 +28,5 @@ returns-4 c = simp (c .before .enum-told4 .given .1, c .wrapping-add-u644 .ensur
 pub count-spec : {M : Type 1} → statement M
 count-spec =
     tie.close
-    (tie.spec (search needs) (search needs) (search needs) (search needs) (search needs) (search needs) (search needs)
-    (search needs) returns returns-2 returns-3 returns-4)
+    (tie.spec (λ c. search needs) (λ c. search needs) (λ c κs. search needs) (λ c. search needs) (λ c κs. search needs)
+    (λ c κs. search needs) (λ c. search needs) (λ c κs. search needs) returns returns-2 returns-3 returns-4)

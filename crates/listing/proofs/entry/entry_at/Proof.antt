@@ -17,5 +17,5 @@ returns-2 c = c .read-string .ensures ∙ simp (c .before .before .before .event
 pub entry-at-spec : {M : Type 1} → statement M
 entry-at-spec =
     tie.close
-    (tie.spec (search needs) (search needs) slice-aggregate-read-string (search needs) (search needs)
-    (λ c. search needs) returns-2 (λ c. search needs))
+    (tie.spec (λ c. search needs) (λ c. search needs) slice-aggregate-read-string (λ c κs. search needs)
+    (λ c. search needs) (λ c. search needs) returns-2 (λ c. search needs))

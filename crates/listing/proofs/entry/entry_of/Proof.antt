@@ -13,4 +13,5 @@ returns-3 : tie.Need-returns-3
 returns-3 c = simp (c .before .answer3 .given .1)
 
 pub entry-of-spec : {M : Type 1} → statement M
-entry-of-spec = tie.close (tie.spec (search needs) (search needs) (search needs) returns returns-2 returns-3)
+entry-of-spec =
+    tie.close (tie.spec (λ c. search needs) (λ c. search needs) (λ c. search needs) returns returns-2 returns-3)

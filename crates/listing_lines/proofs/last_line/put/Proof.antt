@@ -12,4 +12,7 @@ returns c =
     written-part (now (x .args .s)) (now (x .args .out)) (x .args .at) (x .pre) _ (w .write-bytes .ensures)
 
 pub put-spec : {M : Type 1} → statement M
-put-spec = tie.close (tie.spec (search needs) (search needs) (search needs) (search needs) (search needs) returns)
+put-spec =
+    tie.close
+    (tie.spec (λ c. search needs) (λ c. search needs) (λ c. search needs) (λ c κs. search needs) (λ c. search needs)
+    returns)

@@ -13,4 +13,4 @@ returns c =
     rw (c .put .ensures) (extends-paste (x .out .now) (x .at) (x .s .now) h)
 
 pub put-text-spec : {M : Type 1} → statement M
-put-text-spec = tie.close (tie.spec (search needs) (search needs) returns)
+put-text-spec = tie.close (tie.spec (λ c κs. search needs) (λ c. search needs) returns)

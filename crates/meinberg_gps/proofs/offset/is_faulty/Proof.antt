@@ -20,4 +20,6 @@ returns c =
     )
 
 pub is-faulty-spec : {M : Type 1} → statement M
-is-faulty-spec = tie.close (tie.spec (search needs) (search needs) (λ c κs. search needs) (search needs) returns)
+is-faulty-spec =
+    tie.close
+    (tie.spec (λ c κs. search needs) (λ c. search needs) (λ c κs. search needs) (λ c κs. search needs) returns)

@@ -34,4 +34,4 @@ returns c =
     rw (toZ-ofZ f, toZ-ofZ (held c), c .with-sign .ensures, c .before .size .ensures)
 
 pub read-spec : {M : Type 1} → statement M
-read-spec = tie.close (tie.spec (search needs) (λ c κs. search needs) (search needs) cast-result returns)
+read-spec = tie.close (tie.spec (λ c. search needs) (λ c κs. search needs) (λ c κs. search needs) cast-result returns)

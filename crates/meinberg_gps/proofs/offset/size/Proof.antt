@@ -15,4 +15,7 @@ returns c =
     simp (n .numbers-at .ensures, numbers-two (n .before .before .pre .1) 25 (lit≤ tt) refl refl)
 
 pub size-spec : {M : Type 1} → statement M
-size-spec = tie.close (tie.spec (search needs) (search needs) (search needs) (search needs) (search needs) returns)
+size-spec =
+    tie.close
+    (tie.spec (λ c κs. search needs) (λ c. search needs) (λ c. search needs) (λ c. search needs) (λ c. search needs)
+    returns)

@@ -26,5 +26,6 @@ returns c =
 pub offset-text-spec : {M : Type 1} → statement M
 offset-text-spec =
     tie.close
-    (tie.spec cast-size (search needs) cast-sign-byte (search needs) (search needs) (search needs) (search needs)
-    (search needs) (search needs) (search needs) (search needs) (search needs) returns)
+    (tie.spec cast-size (λ c κs. search needs) cast-sign-byte (λ c κs. search needs) (λ c. search needs)
+    (λ c. search needs) (λ c. search needs) (λ c. search needs) (λ c. search needs) (λ c. search needs)
+    (λ c. search needs) (λ c. search needs) returns)

@@ -23,4 +23,7 @@ returns c =
     ∙ simp (f .text-of .ensures, offset, l .letter-if .ensures, p .position-text .ensures)
 
 pub text-of-spec : {M : Type 1} → statement M
-text-of-spec = tie.close (tie.spec (search needs) (search needs) (search needs) (search needs) (search needs) returns)
+text-of-spec =
+    tie.close
+    (tie.spec (λ c κs. search needs) (λ c κs. search needs) (λ c κs. search needs) (λ c κs. search needs)
+    (λ c κs. search needs) returns)

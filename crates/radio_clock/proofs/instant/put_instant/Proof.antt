@@ -15,4 +15,4 @@ returns-2 : tie.Need-returns-2
 returns-2 c = rw (c .before .before .answer2 .given .1, c .error-number .ensures)
 
 pub put-instant-spec : {M : Type 1} → statement M
-put-instant-spec = tie.close (tie.spec (search needs) (search needs) (search needs) returns returns-2)
+put-instant-spec = tie.close (tie.spec (λ c. search needs) (λ c. search needs) (λ c κs. search needs) returns returns-2)

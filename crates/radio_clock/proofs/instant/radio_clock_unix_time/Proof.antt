@@ -21,5 +21,5 @@ returns-2 c =
 pub radio-clock-unix-time-spec : {M : Type 1} → statement M
 radio-clock-unix-time-spec =
     tie.close
-    (tie.spec (search needs) (search needs) (search needs) (search needs) (search needs) (search needs) returns
-    returns-2)
+    (tie.spec (λ c κs. search needs) (λ c. search needs) (λ c κs. search needs) (λ c κs. search needs)
+    (λ c. search needs) (λ c κs. search needs) returns returns-2)

@@ -9,4 +9,5 @@ unfolding readMinuteInto
 returns c = rw (← (c .before .before .before .read-minute .ensures)) (c .before .put-minute .ensures)
 
 pub radio-clock-read-minute-spec : {M : Type 1} → statement M
-radio-clock-read-minute-spec = tie.close (tie.spec (search needs) (search needs) (search needs) returns)
+radio-clock-read-minute-spec =
+    tie.close (tie.spec (λ c κs. search needs) (λ c κs. search needs) (λ c. search needs) returns)

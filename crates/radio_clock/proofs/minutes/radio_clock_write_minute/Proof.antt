@@ -10,4 +10,5 @@ returns c =
     counted-from (w .write-marks .result) _ _ _ _ _ (c .put-written .ensures) (w .write-marks .ensures)
 
 pub radio-clock-write-minute-spec : {M : Type 1} → statement M
-radio-clock-write-minute-spec = tie.close (tie.spec (search needs) (search needs) (search needs) returns)
+radio-clock-write-minute-spec =
+    tie.close (tie.spec (λ c κs. search needs) (λ c κs. search needs) (λ c. search needs) returns)

@@ -15,5 +15,5 @@ returns-2 c =
 pub radio-clock-fill-outcomes-spec : {M : Type 1} → statement M
 radio-clock-fill-outcomes-spec =
     tie.close
-    (tie.spec (search needs) (search needs) (search needs) (search needs) (search needs) returns (search needs)
-    returns-2)
+    (tie.spec (λ c κs. search needs) (λ c. search needs) (λ c. search needs) (λ c κs. search needs) (λ c. search needs)
+    returns (λ c. search needs) returns-2)

@@ -17,4 +17,5 @@ returns-2 c =
 
 pub radio-clock-outcome-at-spec : {M : Type 1} → statement M
 radio-clock-outcome-at-spec =
-    tie.close (tie.spec (search needs) (search needs) (search needs) (search needs) returns returns-2)
+    tie.close
+    (tie.spec (λ c κs. search needs) (λ c. search needs) (λ c. search needs) (λ c κs. search needs) returns returns-2)

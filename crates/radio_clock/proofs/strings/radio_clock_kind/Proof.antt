@@ -18,4 +18,6 @@ returns-2 c =
 
 pub radio-clock-kind-spec : {M : Type 1} → statement M
 radio-clock-kind-spec =
-    tie.close (tie.spec (search needs) (search needs) (search needs) (search needs) (search needs) returns returns-2)
+    tie.close
+    (tie.spec (λ c κs. search needs) (λ c. search needs) (λ c κs. search needs) (λ c. search needs)
+    (λ c κs. search needs) returns returns-2)

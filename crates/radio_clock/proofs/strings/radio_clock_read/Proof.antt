@@ -18,19 +18,19 @@ pub radio-clock-read-spec : {M : Type 1} → statement M
 unfolding readInto readNumbered kindNamed readAs
 radio-clock-read-spec =
     tie.close
-    (tie.spec (search needs) (search needs) (search needs)
+    (tie.spec (λ c κs. search needs) (λ c κs. search needs) (λ c. search needs)
     (λ c.
     let r = c .before .before .before in
     rw (r .before .if1 .taken, ← (r .read-standard .ensures), ← plain-put) (c .before .put-time .ensures))
-    (search needs) (search needs) (search needs)
+    (λ c κs. search needs) (λ c κs. search needs) (λ c. search needs)
     (λ c.
     let r = c .before .before .before in
     rw (r .before .if2 .taken, ← (r .read-pzf .ensures), ← plain-put) (c .before .put-time2 .ensures))
-    (search needs) (search needs) (search needs)
+    (λ c κs. search needs) (λ c κs. search needs) (λ c. search needs)
     (λ c.
     let r = c .before .before .before in
     rw (r .before .if3 .taken, ← (r .read-gps .ensures), ← located-put) (c .before .put-gps .ensures))
-    (search needs) (search needs) (search needs)
+    (λ c κs. search needs) (λ c κs. search needs) (λ c. search needs)
     (λ c.
     let r = c .before .before .before in
     rw (r .before .if4 .taken, ← (r .read-elv .ensures), ← plain-put) (c .before .put-time3 .ensures))

@@ -10,4 +10,4 @@ returns c =
     counted-from (w .write-string .result) _ _ _ _ _ (c .put-written .ensures) (w .write-string .ensures)
 
 pub radio-clock-write-spec : {M : Type 1} → statement M
-radio-clock-write-spec = tie.close (tie.spec (search needs) (search needs) (search needs) returns)
+radio-clock-write-spec = tie.close (tie.spec (λ c κs. search needs) (λ c κs. search needs) (λ c. search needs) returns)

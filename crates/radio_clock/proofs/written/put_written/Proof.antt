@@ -10,4 +10,4 @@ returns-2 : tie.Need-returns-2
 returns-2 c = rw (c .before .before .answer2 .given .1, c .error-number .ensures)
 
 pub put-written-spec : {M : Type 1} → statement M
-put-written-spec = tie.close (tie.spec (search needs) (search needs) (search needs) returns returns-2)
+put-written-spec = tie.close (tie.spec (λ c. search needs) (λ c. search needs) (λ c κs. search needs) returns returns-2)

@@ -32,5 +32,5 @@ returns-2 c = sym (after-end _ _ (c .loop-test .left)) ∙ c .before .loop .inv
 pub gap-after-spec : {M : Type 1} → statement M
 gap-after-spec =
     tie.close
-    (tie.spec Inv-loop μ-loop (search needs) loop-holds (search needs) returns (search needs) (search needs) loop-again
-    returns-2)
+    (tie.spec Inv-loop μ-loop (λ c. search needs) loop-holds (λ c. search needs) returns (λ c. search needs)
+    (λ c. search needs) loop-again returns-2)

@@ -14,4 +14,5 @@ returns-2 c =
     ∙ sym (rule-gap _ _ _ _ (c .before .before .if1 .left) (sym (c .before .gap-before .ensures)))
 
 pub number-at-spec : {M : Type 1} → statement M
-number-at-spec = tie.close (tie.spec (search needs) returns (search needs) (λ c κs. search needs) returns-2)
+number-at-spec =
+    tie.close (tie.spec (λ c. search needs) returns (λ c κs. search needs) (λ c κs. search needs) returns-2)

@@ -17,5 +17,5 @@ returns c = rw (c .before .before .last .given .1) (c .number-between .ensures)
 pub number-at-gap-spec : {M : Type 1} → statement M
 number-at-gap-spec =
     tie.close
-    (tie.spec (search needs) number-between-requires (search needs) (search needs) (search needs) returns
-    (λ c. search needs))
+    (tie.spec (λ c. search needs) number-between-requires (λ c. search needs) (λ c κs. search needs) (λ c. search needs)
+    returns (λ c. search needs))

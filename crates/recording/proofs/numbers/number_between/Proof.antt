@@ -13,4 +13,6 @@ returns c =
 
 pub number-between-spec : {M : Type 1} → statement M
 number-between-spec =
-    tie.close (tie.spec (search needs) (search needs) (search needs) (search needs) (search needs) returns)
+    tie.close
+    (tie.spec (λ c. search needs) (λ c. search needs) (λ c. search needs) (λ c. search needs) (λ c κs. search needs)
+    returns)

@@ -9,6 +9,6 @@ pub renew-spec : {M : Type 1} → statement M
 unfolding differ
 renew-spec =
     tie.close
-    (tie.spec (search needs) (search needs) (search needs) (search needs) (search needs) (search needs)
-    (λ c. search (tests, ← (c .before .before .number-at .ensures))) (search needs)
+    (tie.spec (λ c κs. search needs) (λ c. search needs) (λ c. search needs) (λ c. search needs) (λ c. search needs)
+    (λ c. search needs) (λ c. search (tests, ← (c .before .before .number-at .ensures))) (λ c. search needs)
     (λ c. search (tests, ← (c .before .before .number-at .ensures))))

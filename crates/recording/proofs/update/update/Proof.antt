@@ -42,5 +42,5 @@ returns-2 c =
 pub update-spec : {M : Type 1} → statement M
 update-spec =
     tie.close
-    (tie.spec (search needs) (search needs) (search needs) renew-requires-2 add-result (search needs) (search needs)
-    returns (search needs) returns-2)
+    (tie.spec (λ c κs. search needs) (λ c κs. search needs) (λ c. search needs) renew-requires-2 add-result
+    (λ c. search needs) (λ c. search needs) returns (λ c. search needs) returns-2)

@@ -43,4 +43,4 @@ cast-result-2 : tie.Need-cast-result-2
 cast-result-2 c = rw (above c) (tt, omega (arith, c .before .fits .value .sfits))
 
 pub bits-spec : {M : Type 1} → statement M
-bits-spec = tie.close (tie.spec cast-result (search needs) cast-result-2 (search needs))
+bits-spec = tie.close (tie.spec cast-result (λ c. search needs) cast-result-2 (λ c. search needs))

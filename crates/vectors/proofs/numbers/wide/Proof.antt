@@ -8,4 +8,4 @@ cast-result : tie.Need-cast-result
 cast-result c = rw (toZ-ofZ (c .fits .value)) (sfits-widen tt (c .fits .value))
 
 pub wide-spec : {M : Type 1} → statement M
-wide-spec = tie.close (tie.spec cast-result (search needs))
+wide-spec = tie.close (tie.spec cast-result (λ c. search needs))

@@ -31,10 +31,11 @@ list: target/bin/list_times
 outside: c-test $(LIST_TIMES)
 	python3 tests/list_times.py $(LIST_TIMES) samples/capture.bin
 
-# rt proves the crates below, then the library or the program.
+# rt proves the crates below, then the library or the program. The C face is two crates; their archives are joined.
 library: $(LIBRARY)
 target/staticlib/libradio_clock.a: $(CRATES)
-	@rt staticlib radio_clock >&2
+	@rt staticlib radio_clock_readings >&2 && rt staticlib radio_clock_recordings >&2
+	@printf 'create %s\naddlib %s\naddlib %s\nsave\n' $@ $(@D)/libradio_clock_readings.a $(@D)/libradio_clock_recordings.a | $(AR) -M
 target/bin/list_times: $(CRATES)
 	@rt check list_times >&2
 

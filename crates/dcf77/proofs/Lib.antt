@@ -6,7 +6,6 @@ pub mod AcceptLaws
 pub mod BitLaws
 pub mod BackLaws
 pub mod SameLaws
-pub mod RunLaws
 pub mod FitLaws
 pub mod TextLaws
 pub mod WriteLaws

@@ -1,15 +1,15 @@
 -- One DCF77 minute: the marks between two gaps, and the time that they announce. Assumes nothing.
-use Prim.Native.Nat.{ℕ, _+_, _*_, _/_, _%_}
+use Prim.Native.Nat.{ℕ, _+_, _/_, _%_}
 use mathlib.Core.Bool.{Bool, false, cond, not, _&&_, _||_, Bool·beq}
 use mathlib.Core.List.{List, [], _∷_, _++_}
 use lib.Dec.{leb, eqb}
 use lib.ListN.{length, getD}
 use lib.IntN.{pos}
 use Rattle.clock_time.specs.Errors.{Answer, accepted, refused, errorNumber, Check, given, checked}
-use Rattle.clock_time.specs.Same.{eqℤ, sameTime}
+use Rattle.clock_time.specs.Same.{sameTime}
 use Rattle.clock_time.specs.Writing.{Outcome, writeBack}
 use Rattle.clock_time.specs.declared.ClockTime.{ClockTime}
-use Rattle.gregorian.specs.Date.{dateExists, fullYear, sum, daysSinceEpoch}
+use Rattle.gregorian.specs.Date.{dateExists, fullYear, sum}
 use Rattle.calendar.specs.TimeOfDay.{timeExists}
 use Rattle.dcf77.specs.Marks.{long, short, allSure, binary, twoDigits, isOdd, bits}
 use Rattle.dcf77.specs.declared.MinuteTime.{MinuteTime}
@@ -118,18 +118,3 @@ sameMinute a b =
 -- "For a writer: 23, 20; it fills the first places it needs and changes nothing after them." (01, Refusal numbers)
 unfoldable pub writeMinute : MinuteTime → List ℕ → Outcome
 writeMinute a buffer = writeBack readMinute minuteText sameMinute a buffer
-
--- ---- the number of a run
--- "at a gap the refusal number; or, accepted, 100 + 32 L + 16 (run of 60) + 8 (offset 120) + 4 antenna + 2 change
--- + 1 leap, where L is local minutes from 1970-01-01 00:00" (01, Tape and sheet)
-abbrev pub outcomeNumber : Answer MinuteTime → ℕ
-outcomeNumber (refused k) = k
-outcomeNumber (accepted a) =
-    let t = a .time in
-    100 + 32 * (1440 * daysSinceEpoch (t .year) (t .month) (t .day) + 60 * t .hour + t .minute)
-    + 16 * mark (a .detail .sixty) + 8 * mark (eqℤ (t .«utc_offset») (pos 120))
-    + 4 * mark (t .«alternate_antenna») + 2 * mark (t .«dst_change_announced») + mark (t .«leap_second_announced»)
-
--- the number of a run of marks
-unfoldable pub runNumber : List ℕ → ℕ
-runNumber m = outcomeNumber (readMinute m)

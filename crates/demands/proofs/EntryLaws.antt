@@ -24,7 +24,7 @@ use Rattle.time_string.specs.Kind.{kindOf, Reading, plain, located, time, timeA
 use Rattle.time_string.specs.declared.Kind.{Kind}
 use Rattle.time_string.specs.declared.Kind.the-variants.{Standard, Pzf, Gps, Elv}
 use Rattle.dcf77.specs.Minute.{minuteChecks, minuteFields, minuteText, sameMinute, readMinute, writeMinute}
-use Rattle.dcf77.specs.Minute.{outcomeNumber, runNumber}
+use Rattle.run_number.specs.Number.{outcomeNumber, runNumber}
 use Rattle.recording.specs.Gaps.{isGap, gapBefore}
 use Rattle.recording.specs.Rule.{gapNumber, ruleBy}
 use Rattle.recording.specs.Recording.{rule}
@@ -34,11 +34,11 @@ use Rattle.clock_fields.specs.Ranges.{timeRanges, gpsRanges, minuteRanges, fits
 use Rattle.clock_fields.specs.Ranges.{minuteFrom, numbered}
 use Rattle.fields_writer.specs.Writers.{kindNamed}
 use Rattle.fields_writer.proofs.KindLaws.{kind-unknown}
-use Rattle.radio_clock.specs.Strings.{kindNumber, kindNumberOf, readingNumbers, readNumbered, readInto}
+use Rattle.radio_clock_readings.specs.Strings.{kindNumber, kindNumberOf, readingNumbers, readNumbered, readInto}
 use Rattle.fields_writer.specs.Writers.{writeAs, writeFrom}
-use Rattle.radio_clock.specs.Strings.{unixTimeOf}
+use Rattle.radio_clock_readings.specs.Strings.{unixTimeOf}
 use Rattle.fields_writer.specs.Writers.{writeMinuteFrom}
-use Rattle.radio_clock.specs.Minutes.{readMinuteInto}
+use Rattle.radio_clock_readings.specs.Minutes.{readMinuteInto}
 use Rattle.demands.specs.Ordered.{numbersOf, Ordered}
 use Rattle.demands.specs.Lines.{textOrder, minuteOrder, linesAs, kindLines, writerLines, textLines, gapLines}
 use Rattle.demands.specs.Lines.{gapMinute, gapAnswer}

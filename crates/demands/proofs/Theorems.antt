@@ -34,10 +34,11 @@ use Rattle.meinberg_gps.proofs.Theorems as gpss
 use Rattle.elv_dcf7000.specs.Accepts.{AcceptsElv}
 use Rattle.elv_dcf7000.specs.Elv.{elv, elvFields, readElv, writeElv}
 use Rattle.elv_dcf7000.proofs.Theorems as elvs
-use Rattle.time_string.specs.Kind.{Reading, kindOf, readAs}
+use Rattle.time_string.specs.Kind.{Reading, readingTime, kindOf, readAs}
 use Rattle.time_string.specs.declared.Kind.{Kind}
 use Rattle.dcf77.specs.Accepts.{AcceptsMinute}
-use Rattle.dcf77.specs.Minute.{minuteChecks, minuteFields, readMinute, writeMinute, outcomeNumber, runNumber}
+use Rattle.dcf77.specs.Minute.{minuteChecks, minuteFields, readMinute, writeMinute}
+use Rattle.run_number.specs.Number.{outcomeNumber, runNumber}
 use Rattle.dcf77.specs.declared.MinuteTime.{MinuteTime}
 use Rattle.dcf77.proofs.Theorems as minutes
 use Rattle.recording.specs.Demand.{Corrected}
@@ -55,17 +56,18 @@ use Rattle.clock_numbers.specs.Numbers.{minuteNumbers}
 use Rattle.clock_fields.specs.Ranges.{timeRanges, gpsRanges, minuteRanges, fits, fitsAll, timeFrom, gpsFrom, minuteFrom}
 use Rattle.clock_fields.specs.Ranges.{numbered, firstTimeOf, timeOf, gpsOf, minuteOf}
 use Rattle.fields_writer.specs.Writers.{kindNamed, writeFrom}
-use Rattle.radio_clock.specs.Strings.{kindNumberOf, readingNumbers, readNumbered, readInto, unixTimeOf}
+use Rattle.radio_clock_readings.specs.Strings.{kindNumber, kindNumberOf, readingNumbers, readNumbered, readInto, unixTimeOf}
 use Rattle.fields_writer.specs.Writers.{writeMinuteFrom}
-use Rattle.radio_clock.specs.Minutes.{readMinuteInto}
+use Rattle.radio_clock_readings.specs.Minutes.{readMinuteInto}
 use Rattle.feed_state.specs.Feed.{FeedMemory, feedInto}
-use Rattle.radio_clock.proofs.Theorems as face
 use Rattle.demands.specs.Ordered.{Ordered, Lent, FromC}
 use Rattle.demands.specs.Lines.{textOrder, minuteOrder, linesAs, kindLines, writerLines, textLines, minuteLines}
 use Rattle.demands.specs.Lines.{gapLines, gapAnswer, readLines, writeLines, readMinuteLines, writeMinuteLines}
 use Rattle.demands.specs.Lines.{unixTimeLines}
 use Rattle.demands.proofs.OrderLaws.{ordered, lent, from-answered, from-left, from-counted}
 use Rattle.demands.proofs.EntryLaws as entry
+use Rattle.demands.proofs.RoundLaws as round
+use Rattle.demands.proofs.RefusedLaws as unread
 
 -- ======== Demand 1
 -- "Any bytes, any marks, any place, any lent memory: each public entry ends with its answer or with one numbered
@@ -311,23 +313,32 @@ minute-faithful = minutes.faithful
 pub c-written-back : (n : ℕ) (s : List ℕ) (r : Reading) → readNumbered n s ≡ accepted r
     → (d : List ℕ) → length s ≤ length d
     → writeFrom n (readingNumbers r) d ≡ exit (accepted (length s)) (s ++ drop (length s) d)
-c-written-back = face.write-read
+c-written-back = round.write-read
 
 pub c-minute-written-back : (m : List ℕ) (a : MinuteTime) → readMinute m ≡ accepted a
     → (d : List ℕ) → length m ≤ length d
     → writeMinuteFrom (minuteNumbers a) d ≡ exit (accepted (length m)) (m ++ drop (length m) d)
-c-minute-written-back = face.write-read-minute
+c-minute-written-back = round.write-read-minute
 
 -- "Given room enough, a writer refuses a reading exactly when nothing acceptable in that format reads as it.": from C,
 -- numbers are refused with 23, whatever the room, exactly if nothing of that kind is read as them
 pub c-refused-23 : (n : ℕ) (kind : Kind) → kindNamed n ≡ accepted kind → (z : List ℤ) (d : List ℕ)
     → (writeFrom n z d .answer ≡ refused 23)
     ↔ ((s : List ℕ) (r : Reading) → readNumbered n s ≡ accepted r → readingNumbers r ≡ z → ⊥)
-c-refused-23 = face.write-23
+c-refused-23 = unread.write-23
 
 pub c-minute-refused-23 : (z : List ℤ) (d : List ℕ) → (writeMinuteFrom z d .answer ≡ refused 23)
     ↔ ((m : List ℕ) (a : MinuteTime) → readMinute m ≡ accepted a → minuteNumbers a ≡ z → ⊥)
-c-minute-refused-23 = face.write-minute-23
+c-minute-refused-23 = unread.write-minute-23
+
+-- every string that is read has an instant, from C by the same numbers
+pub c-instant-read : (n : ℕ) (s : List ℕ) (r : Reading) → readNumbered n s ≡ accepted r
+    → unixTimeOf (readingNumbers r) ≡ accepted (instantOf (readingTime r))
+c-instant-read = round.unix-time-read
+
+-- the kind number that C is told is the one that names the kind
+pub c-kind-named : (kind : Kind) → kindNamed (kindNumber kind) ≡ accepted kind
+c-kind-named = round.named-kind
 
 -- ======== Demand 3
 -- "Whatever tape and sheet are lent, and whichever place and new mark are named, this holds after a correction that

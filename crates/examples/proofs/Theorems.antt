@@ -15,7 +15,8 @@ use Rattle.gps_position.specs.Aligned.{areDigits, rightAligned}
 use Rattle.gps_position.specs.Position.{angleDigits, positionDigits, inRange, positionFault, angleOf, positionOf}
 use Rattle.meinberg_gps.specs.Gps.{gpsLayout, offsetFault, offsetOf, leapMismatch, clockOf, gpsFields, gps, readGps}
 use Rattle.dcf77.specs.Marks.{allSure, binary, twoDigits, longs, isOdd}
-use Rattle.dcf77.specs.Minute.{announced, minuteFields, minuteChecks, readMinute, runNumber}
+use Rattle.dcf77.specs.Minute.{announced, minuteFields, minuteChecks, readMinute}
+use Rattle.run_number.specs.Number.{runNumber}
 use Rattle.recording.specs.Gaps.{gapBefore, firstGap, gapAfter}
 use Rattle.recording.specs.Outcomes.{numbers, differ, differences}
 use Rattle.recording.specs.Rule.{ruleBy, reached}

@@ -1,7 +1,7 @@
 -- `recording::numbers::number_between` meets its contract: the part of the marks is the run. Assumes nothing.
 use borrow.Author.Needs.{needs}
 use mathlib.Core.Path.{ap, _∙_}
-use Rattle.dcf77.specs.Minute.{runNumber}
+use Rattle.run_number.specs.Number.{runNumber}
 use Rattle.recording.proofs.RuleLaws.{part-run}
 use Rattle.recording.proofs.numbers.number_between.Statement.{statement}
 use Rattle.recording.proofs.numbers.number_between.Tie as tie

@@ -1,0 +1,2 @@
+-- Laws of the C face of readings.
+pub mod StringLaws

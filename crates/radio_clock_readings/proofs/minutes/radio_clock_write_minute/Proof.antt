@@ -1,0 +1,14 @@
+-- `radio_clock_readings::minutes::radio_clock_write_minute` meets its contract. Assumes nothing.
+use borrow.Author.Needs.{needs}
+use Rattle.clock_time.proofs.CalledLaws.{counted-from}
+use Rattle.radio_clock_readings.proofs.minutes.radio_clock_write_minute.Statement.{statement}
+use Rattle.radio_clock_readings.proofs.minutes.radio_clock_write_minute.Tie as tie
+
+returns : tie.Need-returns
+returns c =
+    let w = c .before .before .before .before in
+    counted-from (w .write-marks .result) _ _ _ _ _ (c .put-written .ensures) (w .write-marks .ensures)
+
+pub radio-clock-write-minute-spec : {M : Type 1} → statement M
+radio-clock-write-minute-spec =
+    tie.close (tie.spec (λ c κs. search needs) (λ c κs. search needs) (λ c. search needs) returns)

@@ -1,0 +1,70 @@
+// Time strings: the kind of a string, reading and writing by kind number.
+use time_string::Kind;
+use time_string::KindAnswer;
+ghost use mathlib.Core.Path.{_≡_};
+ghost use Rattle.clock_time.specs.Called.{called, answered, left, counted};
+ghost use Rattle.radio_clock_readings.specs.Strings.{kindNumber, kindNumberOf, readInto};
+ghost use Rattle.fields_writer.specs.Writers.{writeFrom};
+
+fn kind_number(k: Kind) -> u8
+    ensures { λ r. ⌜ r ≡ kindNumber k ⌝ }
+{
+    match k {
+        Kind::Standard => 0,
+        Kind::Pzf => 1,
+        Kind::Gps => 2,
+        Kind::Elv => 3,
+    }
+}
+
+// Tells the kind of a string: its number is left behind `kind`, or 1 is returned.
+#[no_mangle]
+pub extern "C" fn radio_clock_kind(s: &[u8], kind: &mut u8) -> u8
+    ensures { λ r. ⌜ called r (now (kind .exit)) ≡ answered (now (kind .entry)) (kindNumberOf (now (s .entry))) ⌝ }
+{
+    match time_string::kind_of(s) {
+        KindAnswer::Told(k) => {
+            *kind = kind_number(k);
+            0
+        }
+        KindAnswer::Refused(e) => clock_time::error_number(e),
+    }
+}
+
+// Reads a string of the kind that a number names into the first of the numbers lent: 1 for no such kind, as the kind's
+// reader refuses, 20 where there is no room.
+#[no_mangle]
+pub extern "C" fn radio_clock_read(kind: u8, s: &[u8], fields: &mut [i32]) -> u8
+    ensures { λ r. ⌜ called r (now (fields .exit)) ≡ left (readInto kind (now (s .entry)) (now (fields .entry))) ⌝ }
+{
+    if kind == 0 {
+        return clock_numbers::put_time(meinberg_standard::read_standard(s), fields);
+    }
+    if kind == 1 {
+        return clock_numbers::put_time(meinberg_pzf::read_pzf(s), fields);
+    }
+    if kind == 2 {
+        return clock_numbers::put_gps(meinberg_gps::read_gps(s), fields);
+    }
+    if kind == 3 {
+        return clock_numbers::put_time(elv_dcf7000::read_elv(s), fields);
+    }
+    1
+}
+
+// Writes numbers as a string of the kind that a number names to the front of `out`, with its length behind `written`: 1
+// for no such kind, 23 where no such string is read as the numbers, 20 where there is no room.
+#[no_mangle]
+pub extern "C" fn radio_clock_write(
+    kind: u8,
+    fields: &[i32],
+    out: &mut [u8],
+    written: &mut usize,
+) -> u8
+    ensures { λ r. ⌜
+        called r (now (out .exit), now (written .exit))
+        ≡ counted (now (written .entry)) (writeFrom kind (now (fields .entry)) (now (out .entry)))
+        ⌝ }
+{
+    clock_time::put_written(fields_writer::write_string(kind, fields, out), written)
+}

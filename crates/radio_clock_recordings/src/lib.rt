@@ -1,0 +1,61 @@
+// The C face of recordings: the outcomes of a recording of marks. Each exported function returns 0, or the number of its
+// refusal, and leaves its results in memory that the caller lends. A refusal changes nothing lent.
+use recording::CorrectAnswer;
+use recording::FillAnswer;
+use recording::OutcomeAnswer;
+ghost use mathlib.Core.Path.{_≡_};
+ghost use Rattle.recording.specs.Recording.{outcomeAt, fillOutcomes, recorded, correctMark};
+ghost use Rattle.clock_time.specs.Called.{called, answered, left, counted};
+
+// Leaves the number that the rule gives a place behind `number`: 20 for more than 100,000 marks, 21 for no such place.
+#[no_mangle]
+pub extern "C" fn radio_clock_outcome_at(marks: &[u8], place: usize, number: &mut u32) -> u8
+    ensures { λ r. ⌜
+        called r (now (number .exit)) ≡ answered (now (number .entry)) (outcomeAt (now (marks .entry)) place)
+        ⌝ }
+{
+    match recording::outcome_at(marks, place) {
+        OutcomeAnswer::Number(n) => {
+            *number = n;
+            0
+        }
+        OutcomeAnswer::Refused(e) => clock_time::error_number(e),
+    }
+}
+
+// Puts the number of every place into outcomes: 20 where these do not fit the marks, or the marks are too many.
+#[no_mangle]
+pub extern "C" fn radio_clock_fill_outcomes(marks: &[u8], outcomes: &mut [u32]) -> u8
+    ensures { λ r. ⌜
+        called r (now (outcomes .exit)) ≡ left (fillOutcomes (now (marks .entry)) (now (outcomes .entry)))
+        ⌝ }
+{
+    match recording::fill_outcomes(marks, outcomes) {
+        FillAnswer::Filled => 0,
+        FillAnswer::Refused(e) => clock_time::error_number(e),
+    }
+}
+
+// Puts a new mark at a place, brings the outcomes up to date, and leaves the count of those that differ behind
+// `changed`: 20 where marks and outcomes do not fit, 21 for no such place, 22 for a mark above 3.
+#[no_mangle]
+pub extern "C" fn radio_clock_correct_mark(
+    marks: &mut [u8],
+    outcomes: &mut [u32],
+    place: usize,
+    mark: u8,
+    changed: &mut usize,
+) -> u8
+    ensures { λ r. ⌜
+        called r (recorded (now (marks .exit)) (now (outcomes .exit)), now (changed .exit))
+        ≡ counted (now (changed .entry)) (correctMark (now (marks .entry)) (now (outcomes .entry)) place mark)
+        ⌝ }
+{
+    match recording::correct_mark(marks, outcomes, place, mark) {
+        CorrectAnswer::Corrected(n) => {
+            *changed = n;
+            0
+        }
+        CorrectAnswer::Refused(e) => clock_time::error_number(e),
+    }
+}

@@ -1,0 +1,2 @@
+-- Laws of an accepted minute.
+pub mod RunLaws

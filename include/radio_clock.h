@@ -1,7 +1,7 @@
 /* Radio clocks: time strings of Meinberg and ELV receivers, and DCF77 second marks, by a proved library.
  *
  * Every function returns 0 where it did what it says, else the number of an error, and then nothing lent has changed.
- * Results go into memory that the caller lends. No pointer is NULL, also where a length is 0; what a call may change
+ * Results go into memory that the caller lends. No pointer may be NULL, even where a length is 0; what a call may change
  * overlaps nothing else lent to it. No function keeps a pointer, allocates, or has state of its own. */
 #ifndef RADIO_CLOCK_H
 #define RADIO_CLOCK_H

@@ -109,7 +109,7 @@ fn nonzero(w: u64) -> u64
 }
 
 // Whether each of the seven bytes from a place on is its letter or a blank, and the eighth is the last byte: then no
-// byte differs from both. No byte is tested by itself, since a branch on a flag can't be foreseen.
+// byte differs from both. No byte is tested by itself, since a branch on a flag can't be predicted.
 pub fn flags_fit(
     s: &[u8],
     at: usize,

@@ -11,14 +11,14 @@ use Rattle.clock_time.specs.Same.{eqℤ}
 use Rattle.clock_time.specs.declared.ClockTime.{ClockTime}
 use Rattle.meinberg_gps.specs.declared.GpsTime.{GpsTime}
 use Rattle.dcf77.specs.declared.MinuteTime.{MinuteTime}
-use Rattle.clock_numbers.specs.Numbers.{flag, timeNumbers, gpsNumbers, minuteNumbers}
+use Rattle.clock_numbers.specs.Numbers.{flagNumber, timeNumbers, gpsNumbers, minuteNumbers}
 use Rattle.clock_fields.specs.Ranges.{Range, upTo, i32Range, within, timeRanges, gpsRanges, minuteRanges}
 use Rattle.clock_fields.specs.Ranges.{fits, isSet}
 use Rattle.clock_fields.specs.Ranges.{timeFrom, gpsFrom, minuteFrom, timeOf, firstTimeOf, gpsOf, minuteOf}
 use Rattle.clock_fields.specs.Held.{Holds, HoldsPosition}
 use Rattle.clock_fields.proofs.RangeLaws.{numbered-fit}
 
-flag-back : (b : Bool) → isSet (flag b) ≡ b
+flag-back : (b : Bool) → isSet (flagNumber b) ≡ b
 unfolding eqℤ
 flag-back true = refl
 flag-back false = refl
@@ -27,7 +27,7 @@ flag-back false = refl
 up-within : (m n : ℕ) → n ≤ m → within (upTo m) (pos n) ≡ true
 up-within m n h = simp (le-leb 0 n (omega arith), le-leb n m h)
 
-flag-within : (on : Bool) → within (upTo 1) (flag on) ≡ true
+flag-within : (on : Bool) → within (upTo 1) (flagNumber on) ≡ true
 flag-within true = refl
 flag-within false = refl
 
@@ -77,7 +77,7 @@ pub minute-back : (a : MinuteTime) → Holds (a .time) → a .detail .marks ≤ 
 unfolding minuteFrom minuteNumbers minuteRanges timeRanges timeNumbers fits
 minute-back a h marks =
     let d = a .detail in
-    let z = pos (d .marks) ∷ flag (d .sixty) ∷ [] in
+    let z = pos (d .marks) ∷ flagNumber (d .sixty) ∷ [] in
     let rest : fits (upTo 65535 ∷ upTo 1 ∷ []) z ≡ true =
     simp (up-within 65535 (d .marks) marks, flag-within) in
     sym

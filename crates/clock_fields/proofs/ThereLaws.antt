@@ -14,7 +14,7 @@ use Rattle.clock_time.specs.declared.ClockTime.{ClockTime}
 use Rattle.clock_time.proofs.Tests.{both}
 use Rattle.meinberg_gps.specs.declared.GpsTime.{GpsTime}
 use Rattle.dcf77.specs.declared.MinuteTime.{MinuteTime}
-use Rattle.clock_numbers.specs.Numbers.{flag, timeNumbers, gpsNumbers, minuteNumbers}
+use Rattle.clock_numbers.specs.Numbers.{flagNumber, timeNumbers, gpsNumbers, minuteNumbers}
 use Rattle.clock_fields.specs.Ranges.{Range, upTo, within, timeRanges, gpsRanges, minuteRanges, fits, fitsAll}
 use Rattle.clock_fields.specs.Ranges.{at, isSet, timeFrom, gpsFrom, minuteFrom, numbered, timeOf, gpsOf, minuteOf}
 use Rattle.clock_fields.proofs.RangeLaws.{fits-at, fits-first}
@@ -24,7 +24,7 @@ abs-there : (m : ℕ) (z : ℤ) → within (upTo m) z ≡ true → pos (natAbs z
 abs-there m (pos n) h = refl
 abs-there m (negsuc n) h = absurd (false≢true h)
 
-flag-there : (z : ℤ) → within (upTo 1) z ≡ true → flag (isSet z) ≡ z
+flag-there : (z : ℤ) → within (upTo 1) z ≡ true → flagNumber (isSet z) ≡ z
 unfolding eqℤ
 flag-there (pos zero) h = refl
 flag-there (pos (suc zero)) h = refl

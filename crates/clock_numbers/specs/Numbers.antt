@@ -12,8 +12,8 @@ use Rattle.dcf77.specs.declared.MinuteTime.{MinuteTime}
 use Rattle.clock_time.specs.Called.{leaving}
 
 -- a flag as a number: 1 where it is set, else 0
-abbrev pub flag : Bool → ℤ
-flag on = cond on (pos 1) (pos 0)
+abbrev pub flagNumber : Bool → ℤ
+flagNumber on = cond on (pos 1) (pos 0)
 
 -- "Year, month, day, weekday (1 Monday to 7 Sunday), hour, minute, second, offset in minutes (local minus UTC, signed),
 -- and six flags: unsynchronised, unverified, summer time, change coming, leap second coming, alternate antenna." (01,
@@ -28,12 +28,12 @@ timeNumbers t =
     ∷ pos (t .minute)
     ∷ pos (t .second)
     ∷ t .«utc_offset»
-    ∷ flag (t .unsynchronised)
-    ∷ flag (t .unverified)
-    ∷ flag (t .«summer_time»)
-    ∷ flag (t .«dst_change_announced»)
-    ∷ flag (t .«leap_second_announced»)
-    ∷ flag (t .«alternate_antenna»)
+    ∷ flagNumber (t .unsynchronised)
+    ∷ flagNumber (t .unverified)
+    ∷ flagNumber (t .«summer_time»)
+    ∷ flagNumber (t .«dst_change_announced»)
+    ∷ flagNumber (t .«leap_second_announced»)
+    ∷ flagNumber (t .«alternate_antenna»)
     ∷ []
 
 -- "A GPS string adds position and height" (01, The reading)
@@ -43,10 +43,10 @@ gpsNumbers g =
 
 -- "a minute adds its marks 1..14 and whether it had 60 marks" (01, The reading)
 unfoldable pub minuteNumbers : MinuteTime → List ℤ
-minuteNumbers a = timeNumbers (a .time) ++ (pos (a .detail .marks) ∷ flag (a .detail .sixty) ∷ [])
+minuteNumbers a = timeNumbers (a .time) ++ (pos (a .detail .marks) ∷ flagNumber (a .detail .sixty) ∷ [])
 
--- 20: "lent memory: [..] a buffer too short to write to" (01, Refusal numbers): numbers are put in front, and "nothing
--- after them" changes
+-- 20: "lent memory: [..] a buffer too short to write to"; "it fills the first places it needs and changes nothing after
+-- them" (01, Refusal numbers): numbers are put in front
 unfoldable pub putNumbers : List ℤ → List ℤ → Exit (Unit {0}) (List ℤ)
 putNumbers numbers lent =
     leaves lent (numbers ++ drop (length numbers) lent)

@@ -14,7 +14,7 @@ ghost use Rattle.layout.specs.Text.{readAnswer};
 ghost use Rattle.meinberg_gps.specs.Gps.{gpsAnswer};
 ghost use Rattle.dcf77.specs.Minute.{minuteAnswer};
 ghost use Rattle.clock_time.specs.Called.{called, left};
-ghost use Rattle.clock_numbers.specs.Numbers.{flag, timeNumbers, gpsNumbers, minuteNumbers, putNumbers};
+ghost use Rattle.clock_numbers.specs.Numbers.{flagNumber, timeNumbers, gpsNumbers, minuteNumbers, putNumbers};
 ghost use Rattle.clock_numbers.specs.Numbers.{putAnswer};
 
 fn number(x: u16) -> i32
@@ -24,7 +24,7 @@ fn number(x: u16) -> i32
 }
 
 fn flag_number(on: bool) -> i32
-    ensures { λ r. ⌜ r ≡ flag on ⌝ }
+    ensures { λ r. ⌜ r ≡ flagNumber on ⌝ }
 {
     if on { 1 } else { 0 }
 }

@@ -104,7 +104,8 @@ firstMarks a =
     (bits 4 (t .day % 10) ++ bits 2 (t .day / 10) ++ bits 3 (t .weekday)
     ++ bits 4 (t .month % 10) ++ bits 1 (t .month / 10) ++ bits 4 (t .year % 10) ++ bits 4 (t .year / 10 % 10))
 
--- "Second 59 has no mark, except before a leap second" (01, DCF77 marks); "mark 59 short" (01, Refusal numbers, 19)
+-- "Second 59 has no mark, except before a leap second, when the gap is one later." (01, DCF77 marks); "mark 59 short"
+-- (01, Refusal numbers, 19)
 unfoldable pub minuteText : MinuteTime → List ℕ
 minuteText a = firstMarks a ++ cond (a .detail .sixty) (0 ∷ []) []
 

@@ -42,8 +42,9 @@ use Rattle.radio_clock_readings.specs.Minutes.{readMinuteInto}
 use Rattle.demands.specs.Ordered.{numbersOf, Ordered}
 use Rattle.demands.specs.Lines.{textOrder, minuteOrder, linesAs, kindLines, writerLines, textLines, gapLines}
 use Rattle.demands.specs.Lines.{gapMinute, gapAnswer}
-use Rattle.demands.specs.Lines.{unknownKind, namedKind, places, roomFor, readLines, writeLinesAs, writeLines}
+use Rattle.demands.specs.Lines.{unknownKind, namedKind, numberCount, roomFor, readLines, writeLinesAs, writeLines}
 use Rattle.demands.specs.Lines.{readMinuteLines, writeMinuteLines, unixTimeLines}
+use Rattle.demands.specs.Accepted.{readingAs}
 use Rattle.demands.proofs.OrderLaws.{ordered, checked-map, then-checked, then-leaves}
 
 -- an answer with a place beside it
@@ -83,12 +84,6 @@ kind-named (suc (suc (suc (suc n)))) =
     let h : 3 < suc (suc (suc (suc n))) = omega arith in kind-unknown _ h ∙ rw (lt-ltb 3 _ h)
 
 -- ---- reading strings
-abbrev pub readingAs : Kind → List ℕ → Reading
-readingAs Standard s = time (standardFields s)
-readingAs Pzf s = time (pzfFields s)
-readingAs Gps s = timeAndPosition (gpsFields s)
-readingAs Elv s = time (elvFields s)
-
 pub read-as-lines : (kind : Kind) (s : List ℕ) → readAs kind s ≡ checked (linesAs kind s) (readingAs kind s)
 unfolding readAs readStandard readPzf readGps readElv readText standard pzf gps elv
 read-as-lines Standard s = checked-map plain time (λ a. refl) (λ n. refl) (textChecks standard s) (standardFields s)
@@ -111,7 +106,7 @@ read-numbered-lines n s =
     (then-checked (namedKind n) (readingAs (namedKind n) s) (linesAs (namedKind n) s) (λ kind. readAs kind s)
     (read-as-lines (namedKind n) s) (unknownKind n ∷ []))
 
-numbers-long : (kind : Kind) (s : List ℕ) → length (readingNumbers (readingAs kind s)) ≡ places kind
+numbers-long : (kind : Kind) (s : List ℕ) → length (readingNumbers (readingAs kind s)) ≡ numberCount kind
 unfolding timeNumbers gpsNumbers
 numbers-long Standard s = refl
 numbers-long Pzf s = refl
@@ -134,9 +129,9 @@ unfolding readInto putAnswer
 read-lines n s fields =
     let a = readingAs (namedKind n) s in
     rw (read-numbered-lines n s)
-    (then-leaves a tt (roomFor (places (namedKind n)) fields ∷ []) fields (inFront (readingNumbers a) fields)
+    (then-leaves a tt (roomFor (numberCount (namedKind n)) fields ∷ []) fields (inFront (readingNumbers a) fields)
     (λ x. putNumbers (readingNumbers x) fields)
-    (put-lines readingNumbers fields a (places (namedKind n)) (numbers-long (namedKind n) s))
+    (put-lines readingNumbers fields a (numberCount (namedKind n)) (numbers-long (namedKind n) s))
     (unknownKind n ∷ linesAs (namedKind n) s))
 
 numbers-append : (cs ds : List Check) → numbersOf (cs ++ ds) ≡ numbersOf cs ++ numbersOf ds

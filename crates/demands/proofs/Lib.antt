@@ -4,4 +4,5 @@ pub mod EntryLaws
 pub mod ValidLaws
 pub mod RoundLaws
 pub mod RefusedLaws
+pub mod AcceptedLaws
 pub mod Theorems

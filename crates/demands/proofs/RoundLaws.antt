@@ -156,6 +156,11 @@ unix-time-read n s r h =
     kind-read (kindNamed n) s r h
     (λ k e read. let w = valid-kind s r k read in rw (w .2) (instant-on (readingTime r) (w .0) (w .1)))
 
+pub minute-instant-read : (m : List ℕ) (a : MinuteTime) → readMinute m ≡ accepted a
+    → unixTimeOf (minuteNumbers a) ≡ accepted (instantOf (a .time))
+unfolding minuteNumbers
+minute-instant-read m a h = instant-on (a .time) (minute-valid m a h) _
+
 pub write-read-minute : (m : List ℕ) (a : MinuteTime) → readMinute m ≡ accepted a
     → (d : List ℕ) → length m ≤ length d
     → writeMinuteFrom (minuteNumbers a) d ≡ record { answer = accepted (length m); memory = m ++ drop (length m) d }

@@ -56,7 +56,8 @@ use Rattle.clock_numbers.specs.Numbers.{minuteNumbers}
 use Rattle.clock_fields.specs.Ranges.{timeRanges, gpsRanges, minuteRanges, fits, fitsAll, timeFrom, gpsFrom, minuteFrom}
 use Rattle.clock_fields.specs.Ranges.{numbered, firstTimeOf, timeOf, gpsOf, minuteOf}
 use Rattle.fields_writer.specs.Writers.{kindNamed, writeFrom}
-use Rattle.radio_clock_readings.specs.Strings.{kindNumber, kindNumberOf, readingNumbers, readNumbered, readInto, unixTimeOf}
+use Rattle.radio_clock_readings.specs.Strings.{kindNumber, kindNumberOf, readingNumbers, readNumbered, readInto}
+use Rattle.radio_clock_readings.specs.Strings.{unixTimeOf}
 use Rattle.fields_writer.specs.Writers.{writeMinuteFrom}
 use Rattle.radio_clock_readings.specs.Minutes.{readMinuteInto}
 use Rattle.feed_state.specs.Feed.{FeedMemory, feedInto}
@@ -64,10 +65,12 @@ use Rattle.demands.specs.Ordered.{Ordered, Lent, FromC}
 use Rattle.demands.specs.Lines.{textOrder, minuteOrder, linesAs, kindLines, writerLines, textLines, minuteLines}
 use Rattle.demands.specs.Lines.{gapLines, gapAnswer, readLines, writeLines, readMinuteLines, writeMinuteLines}
 use Rattle.demands.specs.Lines.{unixTimeLines}
+use Rattle.demands.specs.Accepted.{AcceptsAs, readingAs}
 use Rattle.demands.proofs.OrderLaws.{ordered, lent, from-answered, from-left, from-counted}
 use Rattle.demands.proofs.EntryLaws as entry
 use Rattle.demands.proofs.RoundLaws as round
 use Rattle.demands.proofs.RefusedLaws as unread
+use Rattle.demands.proofs.AcceptedLaws as rules
 
 -- ======== Demand 1
 -- "Any bytes, any marks, any place, any lent memory: each public entry ends with its answer or with one numbered
@@ -78,7 +81,7 @@ use Rattle.demands.proofs.RefusedLaws as unread
 pub read-by-kind : (kind : Kind) (s : List ℕ) → Ordered (linesAs kind s) textOrder (readAs kind s)
 read-by-kind kind s =
     rw (← (entry.as-numbers kind s))
-    (ordered (entry.readingAs kind s) (linesAs kind s) (readAs kind s) (entry.read-as-lines kind s))
+    (ordered (readingAs kind s) (linesAs kind s) (readAs kind s) (entry.read-as-lines kind s))
 
 -- a string of any format
 pub read-text : {A : Type 0} (f : Format A) (s : List ℕ) → Ordered (textChecks f s) textOrder (readText f s)
@@ -200,7 +203,7 @@ pub write-digits : (n k : ℕ) (d : List ℕ) →
 unfolding writeDigits
 write-digits n k d = write-bytes _ _ d
 
--- ---- parts of strings, and readings from numbers
+-- ---- parts of strings, readings from numbers, and writing from numbers
 pub check-clock : (t : ClockTime) (mismatch : Bool) →
     Ordered (clockChecks t mismatch) (5 ∷ 6 ∷ 7 ∷ []) (checked (clockChecks t mismatch) t)
 unfolding clockChecks
@@ -225,6 +228,14 @@ gps-of z = ordered (gpsFrom z) _ (gpsOf z) refl
 pub minute-of : (z : List ℤ) → Ordered (given 23 (not (fitsAll minuteRanges z)) ∷ []) (23 ∷ []) (minuteOf z)
 unfolding numbered
 minute-of z = ordered (minuteFrom z) _ (minuteOf z) refl
+
+pub write-string : (n : ℕ) (z : List ℤ) (d : List ℕ) →
+    Lent (writeLines n z d) (1 ∷ 23 ∷ 23 ∷ 20 ∷ []) d (writeFrom n z d)
+write-string n z d = rw (entry.write-lines n z d, ← (entry.write-numbers n z d)) (lent d _ (writeLines n z d) _)
+
+pub write-marks : (z : List ℤ) (d : List ℕ) →
+    Lent (writeMinuteLines z d) (23 ∷ 23 ∷ 20 ∷ []) d (writeMinuteFrom z d)
+write-marks z d = rw (entry.write-minute-lines z d) (lent d _ (writeMinuteLines z d) _)
 
 -- ---- the lines of a listing. The feed, `list` and the tests of a date, a time or a byte refuse nothing: their answers
 -- have no case for it.
@@ -309,6 +320,35 @@ elv-faithful = elvs.faithful
 pub minute-faithful : Faithful AcceptsMinute minuteFields readMinute writeMinute
 minute-faithful = minutes.faithful
 
+-- "A string or a DCF77 minute is accepted exactly when the rules in document 01 hold, and then every field, offset and
+-- flag is the one those rules give.": by the kind that the caller names, and from C, where a reading is an array of
+-- numbers and has room in what was lent
+pub by-kind-exactly : (kind : Kind) (s : List ℕ) (r : Reading)
+    → (readAs kind s ≡ accepted r) ↔ (AcceptsAs kind s × (r ≡ readingAs kind s))
+by-kind-exactly = rules.read-as-exactly
+
+pub c-accepted : (n : ℕ) (kind : Kind) → kindNamed n ≡ accepted kind → (s : List ℕ) (fields : List ℤ)
+    → readInto n s fields .answer ≡ accepted tt → AcceptsAs kind s
+c-accepted = rules.read-rules
+
+pub c-fields : (n : ℕ) (kind : Kind) → kindNamed n ≡ accepted kind → (s : List ℕ) (fields : List ℤ)
+    → AcceptsAs kind s → length (readingNumbers (readingAs kind s)) ≤ length fields
+    → readInto n s fields
+    ≡ exit (accepted tt)
+    (readingNumbers (readingAs kind s) ++ drop (length (readingNumbers (readingAs kind s))) fields)
+c-fields = rules.read-numbers
+
+pub c-minute-accepted : (m : List ℕ) (fields : List ℤ) → readMinuteInto m fields .answer ≡ accepted tt
+    → AcceptsMinute m
+c-minute-accepted = rules.minute-rules
+
+pub c-minute-fields : (m : List ℕ) (fields : List ℤ) → AcceptsMinute m
+    → length (minuteNumbers (minuteFields m)) ≤ length fields
+    → readMinuteInto m fields
+    ≡ exit (accepted tt)
+    (minuteNumbers (minuteFields m) ++ drop (length (minuteNumbers (minuteFields m))) fields)
+c-minute-fields = rules.minute-numbers
+
 -- "Written back, an accepted reading gives the same bytes or marks.": from C, where a reading is an array of numbers
 pub c-written-back : (n : ℕ) (s : List ℕ) (r : Reading) → readNumbered n s ≡ accepted r
     → (d : List ℕ) → length s ≤ length d
@@ -331,18 +371,27 @@ pub c-minute-refused-23 : (z : List ℤ) (d : List ℕ) → (writeMinuteFrom z d
     ↔ ((m : List ℕ) (a : MinuteTime) → readMinute m ≡ accepted a → minuteNumbers a ≡ z → ⊥)
 c-minute-refused-23 = unread.write-minute-23
 
--- every string that is read has an instant, from C by the same numbers
+-- every string and every minute that is read has an instant, from C by the same numbers
 pub c-instant-read : (n : ℕ) (s : List ℕ) (r : Reading) → readNumbered n s ≡ accepted r
     → unixTimeOf (readingNumbers r) ≡ accepted (instantOf (readingTime r))
 c-instant-read = round.unix-time-read
+
+pub c-minute-instant-read : (m : List ℕ) (a : MinuteTime) → readMinute m ≡ accepted a
+    → unixTimeOf (minuteNumbers a) ≡ accepted (instantOf (a .time))
+c-minute-instant-read = round.minute-instant-read
 
 -- the kind number that C is told is the one that names the kind
 pub c-kind-named : (kind : Kind) → kindNamed (kindNumber kind) ≡ accepted kind
 c-kind-named = round.named-kind
 
 -- ======== Demand 3
--- "Whatever tape and sheet are lent, and whichever place and new mark are named, this holds after a correction that
--- isn't refused.": `Corrected` has a named part for each of the sentences that follow
+-- "A day's marks lie on a tape, with a sheet of one number for each second. Whatever tape and sheet are lent, and
+-- whichever place and new mark are named, this holds after a correction that isn't refused. The tape has the new mark
+-- at that place and its old mark at every other. The sheet's number at that place, and at the first gap after it if
+-- there is one, is the one that document 01's rule gives for the corrected tape, whatever the sheet held before. Every
+-- other number on the sheet is unchanged. So if the sheet was right for the old tape, it is right at every place for
+-- the new one. The count returned is exactly how many places of the sheet hold another number than before.":
+-- `Corrected` has a named part for each of these sentences
 pub corrected : (marks outcomes : List ℕ) (place mark : ℕ) (marks′ outcomes′ : List ℕ) (count : ℕ)
     → exit (accepted count) (recorded marks′ outcomes′) ≡ correctMark marks outcomes place mark
     → Corrected marks outcomes place mark marks′ outcomes′ count

@@ -58,7 +58,8 @@ textLines f a d = writerLines (readsBack (readText f) (f .text) (f .same) a) (f 
 abbrev pub minuteLines : MinuteTime → List ℕ → List Check
 minuteLines a d = writerLines (readsBack readMinute minuteText sameMinute a) (minuteText a) d
 
--- "on a tape 10 comes before these" (01, Refusal numbers): the lines at a gap, by the nearest earlier one
+-- "on a tape 10 comes before these" (01, Refusal numbers): the lines at a gap, by the nearest earlier one;
+-- after 10 none is reached, and those of no marks stand there so that the order is the same
 abbrev pub gapLines : List ℕ → ℕ → Option ℕ → List Check
 gapLines marks place none = given 10 true ∷ minuteChecks []
 gapLines marks place (some earlier) = given 10 false ∷ minuteChecks (runBetween marks earlier place)
@@ -83,11 +84,11 @@ abbrev pub namedKind : ℕ → Kind
 namedKind n = cond (eqb n 0) Standard (cond (eqb n 1) Pzf (cond (eqb n 2) Gps Elv))
 
 -- how many numbers a reading of a kind has
-abbrev pub places : Kind → ℕ
-places Standard = 14
-places Pzf = 14
-places Gps = 17
-places Elv = 14
+abbrev pub numberCount : Kind → ℕ
+numberCount Standard = 14
+numberCount Pzf = 14
+numberCount Gps = 17
+numberCount Elv = 14
 
 -- 20: "lent memory: [..] a buffer too short to write to" (01, Refusal numbers): so many numbers are to be put
 abbrev pub roomFor : ℕ → List ℤ → Check
@@ -95,7 +96,7 @@ roomFor count fields = given 20 (ltb (length fields) count)
 
 -- the kind, the kind's reader, the room
 abbrev pub readLines : ℕ → List ℕ → List ℤ → List Check
-readLines n s fields = unknownKind n ∷ linesAs (namedKind n) s ++ (roomFor (places (namedKind n)) fields ∷ [])
+readLines n s fields = unknownKind n ∷ linesAs (namedKind n) s ++ (roomFor (numberCount (namedKind n)) fields ∷ [])
 
 -- 23 for numbers that are no reading's, and then the kind's writer
 abbrev pub writeLinesAs : Kind → List ℤ → List ℕ → List Check

@@ -10,7 +10,7 @@ use lib.Seq.{take-suc-set}
 use Rattle.framing.specs.declared.Mode.{Mode}
 use Rattle.framing.specs.declared.Mode.the-variants.{Outside, Inside, Overlong}
 use Rattle.framing.specs.declared.Framer.{Framer}
-use Rattle.framing.specs.Step.{Stepped, framerOf, outcome, placeOf, etxAt, plainAt, stx, stepOf}
+use Rattle.framing.specs.Step.{Stepped, framerOf, stepTo, placeOf, etxAt, plainAt, stx, stepOf}
 use Rattle.framing.specs.Feed.{Feeding, feeding, isNothing, later, feedOf}
 use Rattle.framing.specs.Steps.{Alike}
 use Rattle.framing.proofs.StepLaws.{inside-room}
@@ -29,7 +29,7 @@ record Twins (f : Framer) (y : List ℕ) : Type 0 where
 
 record TwinSteps (q r : Stepped) : Type 0 where
   pub bytes : List ℕ
-  pub same : r ≡ outcome (other (q .framer) bytes) (q .answer)
+  pub same : r ≡ stepTo (other (q .framer) bytes) (q .answer)
   pub twins : Twins (q .framer) bytes
 
 record TwinFeeds (q r : Feeding) : Type 0 where

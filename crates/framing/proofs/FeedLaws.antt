@@ -9,7 +9,7 @@ use mathlib.Core.List.{List, _∷_}
 use lib.ListN.{length, getD, take, drop, length-drop, drop-of-length-le}
 use lib.Seq.{drop-cons, drop-drop, take-all}
 use Rattle.framing.specs.declared.Framer.{Framer}
-use Rattle.framing.specs.Step.{FeedAnswer, nothingYet, complete, dropped, outcome, stepOf}
+use Rattle.framing.specs.Step.{FeedAnswer, nothingYet, complete, dropped, stepTo, stepOf}
 use Rattle.framing.specs.Feed.{Feeding, feeding, isNothing, later, feedOf}
 use Rattle.framing.specs.Run.{Taken}
 
@@ -49,7 +49,7 @@ feed-cases P f b s on stop = go (isNothing (stepOf f b .answer)) refl
     go true e = on (nothing-yet (stepOf f b .answer) e)
     go false e = stop e
 
-module _ (f g : Framer) (a : FeedAnswer) (b : ℕ) (s : List ℕ) (step : stepOf f b ≡ outcome g a) where
+module _ (f g : Framer) (a : FeedAnswer) (b : ℕ) (s : List ℕ) (step : stepOf f b ≡ stepTo g a) where
   -- a byte that ends nothing, and the rest
   pub feed-on : isNothing a ≡ true → feedOf f (b ∷ s) ≡ later 1 (feedOf g s)
   unfolding feedOf
@@ -82,7 +82,7 @@ module _ (f : Framer) (s : List ℕ) where
     unfolding later
     taken-end q = t .goes ∙ ap (later i) (feed-end g s i q) ∙ simp add-zero
 
-    module _ (h : Framer) (a : FeedAnswer) (q : i < length s) (step : stepOf g (getD s i 0) ≡ outcome h a) where
+    module _ (h : Framer) (a : FeedAnswer) (q : i < length s) (step : stepOf g (getD s i 0) ≡ stepTo h a) where
       at-place : feedOf g (drop i s) ≡ feedOf g (getD s i 0 ∷ drop (i + 1) s)
       at-place = rw (add-one, drop-cons s i 0)
 

@@ -11,7 +11,7 @@ use lib.ListN.{length, take, set, length-set, length-append}
 use lib.Seq.{append-snoc, take-suc-set}
 use Rattle.framing.specs.declared.Mode.the-variants.{Outside, Inside, Overlong}
 use Rattle.framing.specs.declared.Framer.{Framer}
-use Rattle.framing.specs.Step.{nothingYet, complete, dropped, framerOf, outcome, stx, stepOf}
+use Rattle.framing.specs.Step.{nothingYet, complete, dropped, framerOf, stepTo, stx, stepOf}
 use Rattle.framing.specs.Feed.{Feeding, later, feedOf}
 use Rattle.framing.specs.Framed.{allPlain, Finds, Drops}
 use Rattle.framing.proofs.StepLaws.{place-inside, place-full, place-overlong, still-overlong}
@@ -63,12 +63,12 @@ module _ (rest : List ℕ) where
         kept = w .kept ∙ append-snoc x b (body ++ 3 ∷ []);
       })
 
-  drops-end : (f : Framer) (bytes : List ℕ) (count : ℕ) → stepOf f 3 ≡ outcome (framerOf bytes count Outside) dropped
+  drops-end : (f : Framer) (bytes : List ℕ) (count : ℕ) → stepOf f 3 ≡ stepTo (framerOf bytes count Outside) dropped
       → Drops 1 (feedOf f (3 ∷ rest))
   drops-end f bytes count step =
       rw (feed-stop f (framerOf bytes count Outside) dropped 3 rest step refl) (record { answer = refl; taken = refl })
 
-  drops-more : (f g : Framer) (b n : ℕ) (s : List ℕ) → stepOf f b ≡ outcome g nothingYet → Drops n (feedOf g s)
+  drops-more : (f g : Framer) (b n : ℕ) (s : List ℕ) → stepOf f b ≡ stepTo g nothingYet → Drops n (feedOf g s)
       → Drops (n + 1) (feedOf f (b ∷ s))
   unfolding later
   drops-more f g b n s step w =

@@ -10,7 +10,7 @@ use borrow.Author.Tests.{ltb-true, eqb-true, lt-ltb, le-ltb}
 use Rattle.framing.specs.declared.Mode.{Mode}
 use Rattle.framing.specs.declared.Mode.the-variants.{Outside, Inside, Overlong}
 use Rattle.framing.specs.declared.Framer.{Framer}
-use Rattle.framing.specs.Step.{Stepped, nothingYet, complete, dropped, framerOf, outcome, whenInside, placeOf}
+use Rattle.framing.specs.Step.{Stepped, nothingYet, complete, dropped, framerOf, stepTo, whenInside, placeOf}
 use Rattle.framing.specs.Step.{inMode, keeping, etxAt, plainAt, stx, stepOf}
 use Rattle.framing.specs.Run.{Still}
 
@@ -120,11 +120,11 @@ module _ (f : Framer) (b : ℕ) where
     step-plain p q = simp (p, q, at)
 
   pub step-ends : placeOf (f .count) (f .mode) ≡ Inside → b ≡ 3
-      → stepOf f b ≡ outcome (inMode (keeping f b) Outside) (complete (f .count + 1))
+      → stepOf f b ≡ stepTo (inMode (keeping f b) Outside) (complete (f .count + 1))
   unfolding stepOf
   step-ends at e = simp (e, at)
 
-  pub step-outside : placeOf (f .count) (f .mode) ≡ Outside → eqb b 2 ≡ false → stepOf f b ≡ outcome f nothingYet
+  pub step-outside : placeOf (f .count) (f .mode) ≡ Outside → eqb b 2 ≡ false → stepOf f b ≡ stepTo f nothingYet
   unfolding stepOf
   step-outside at p = simp (p, at, either)
 
@@ -143,10 +143,10 @@ still-overlong bytes count few b h = step-other _ b Overlong (place-overlong cou
 
 -- it is kept where there is room
 pub step-keeps : (bytes : List ℕ) (count b : ℕ) → count < 66 → eqb b 2 || eqb b 3 ≡ false
-    → stepOf (framerOf bytes count Inside) b ≡ outcome (framerOf (set bytes count b) (count + 1) Inside) nothingYet
+    → stepOf (framerOf bytes count Inside) b ≡ stepTo (framerOf (set bytes count b) (count + 1) Inside) nothingYet
 step-keeps bytes count b room h = step-other _ b Inside (place-inside count room) h
 
 -- and with 66 kept makes the string overlong
 pub step-full : (bytes : List ℕ) (b : ℕ) → eqb b 2 || eqb b 3 ≡ false
-    → stepOf (framerOf bytes 66 Inside) b ≡ outcome (framerOf bytes 66 Overlong) nothingYet
+    → stepOf (framerOf bytes 66 Inside) b ≡ stepTo (framerOf bytes 66 Overlong) nothingYet
 step-full bytes b h = step-other _ b Overlong (place-full 66 (omega arith) (omega arith)) h

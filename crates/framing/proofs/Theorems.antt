@@ -6,7 +6,7 @@ use mathlib.Core.List.{List, [], _∷_, _++_}
 use lib.ListN.{length, take, set}
 use Rattle.framing.specs.declared.Mode.the-variants.{Inside}
 use Rattle.framing.specs.declared.Framer.{Framer}
-use Rattle.framing.specs.Step.{nothingYet, complete, framerOf, start, outcome, stepOf}
+use Rattle.framing.specs.Step.{nothingYet, complete, framerOf, start, stepTo, stepOf}
 use Rattle.framing.specs.Feed.{isNothing, later, feedOf}
 use Rattle.framing.specs.Steps.{steps, BySteps, Alike}
 use Rattle.framing.specs.Framed.{allPlain, Reached, Framed, Finds, Drops}
@@ -32,7 +32,7 @@ pub feed-stopped : (f : Framer) (s t : List ℕ) → isNothing (feedOf f s .answ
 feed-stopped = feed-append-stop
 
 -- STX restarts from any state
-pub stx-restarts : (f : Framer) → stepOf f 2 ≡ outcome (framerOf (set (f .bytes) 0 2) 1 Inside) nothingYet
+pub stx-restarts : (f : Framer) → stepOf f 2 ≡ stepTo (framerOf (set (f .bytes) 0 2) 1 Inside) nothingYet
 unfolding stepOf
 stx-restarts f = refl
 

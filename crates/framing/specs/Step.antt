@@ -38,12 +38,12 @@ pub record Stepped : Type 0 where
   pub answer : FeedAnswer
 
 -- what a step comes to: the state and the answer
-abbrev pub outcome : Framer → FeedAnswer → Stepped
-outcome f a = record { framer = f; answer = a }
+abbrev pub stepTo : Framer → FeedAnswer → Stepped
+stepTo f a = record { framer = f; answer = a }
 
 -- the function's result as such
 abbrev pub stepped : Step → Stepped
-stepped r = outcome (r .framer) (answerOf (r .event))
+stepped r = stepTo (r .framer) (answerOf (r .event))
 
 -- "bytes are kept up to 66" (01, The serial feed): inside a string with 66 kept, a further byte finds it overlong
 abbrev pub whenInside : Mode → Mode → Mode
@@ -67,20 +67,20 @@ keeping f b = framerOf (set (f .bytes) (f .count) b) (f .count + 1) Inside
 -- one, and the state is then outside; outside it does nothing. If 66 are kept and ETX comes, the string is dropped."
 -- (01, The serial feed)
 abbrev pub etxAt : Mode → Framer → Stepped
-etxAt Outside f = outcome f nothingYet
-etxAt Inside f = outcome (inMode (keeping f 3) Outside) (complete (f .count + 1))
-etxAt Overlong f = outcome (inMode f Outside) dropped
+etxAt Outside f = stepTo f nothingYet
+etxAt Inside f = stepTo (inMode (keeping f 3) Outside) (complete (f .count + 1))
+etxAt Overlong f = stepTo (inMode f Outside) dropped
 
 -- "Inside, bytes are kept up to 66, STX among them; a further byte that is not STX makes the string overlong until the
 -- next STX or ETX." (01, The serial feed)
 abbrev pub plainAt : Mode → Framer → ℕ → Stepped
-plainAt Outside f b = outcome f nothingYet
-plainAt Inside f b = outcome (keeping f b) nothingYet
-plainAt Overlong f b = outcome (inMode f Overlong) nothingYet
+plainAt Outside f b = stepTo f nothingYet
+plainAt Inside f b = stepTo (keeping f b) nothingYet
+plainAt Overlong f b = stepTo (inMode f Overlong) nothingYet
 
 -- "STX always starts afresh and answers nothing yet, whatever came before." (01, The serial feed)
 abbrev pub stx : Framer → Stepped
-stx f = outcome (framerOf (set (f .bytes) 0 2) 1 Inside) nothingYet
+stx f = stepTo (framerOf (set (f .bytes) 0 2) 1 Inside) nothingYet
 
 -- "STX is 2, ETX is 3." (01, Meinberg and ELV strings)
 unfoldable pub stepOf : Framer → ℕ → Stepped

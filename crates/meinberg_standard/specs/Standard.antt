@@ -16,8 +16,8 @@ use Rattle.layout.specs.Ascii.{ascii}
 use Rattle.layout.specs.Layout.{digit, flag, either, places, number, has}
 use Rattle.layout.specs.Text.{Format, clockFormat, readText, writeText, letter}
 
--- "`STX D:dd.mm.yy;T:w;U:hh.mm.ss;uvxy ETX` [..] The time has dots: 002 shows colons in the layout, dots in its
--- pattern. Dots hold." (01, Meinberg and ELV strings)
+-- "`STX D:dd.mm.yy;T:w;U:hh.mm.ss;uvxy ETX` (the blanks beside STX and ETX are only for print). [..] The time has dots:
+-- 002 shows colons in the layout, dots in its pattern. Dots hold." (01, Meinberg and ELV strings)
 unfoldable pub standardLayout : List ℕ
 standardLayout =
     ascii "\u{2}D:" ++ places 2 digit ++ ascii "." ++ places 2 digit ++ ascii "." ++ places 2 digit
@@ -30,7 +30,7 @@ unfoldable pub standardZone : ℕ → ℤ
 standardZone x = cond (eqb x (code "U")) (pos 0) (cond (eqb x (code "S")) (pos 120) (pos 60))
 
 -- "Flags at 27..30. u is `#` or blank (unsynchronised); v `*` or blank (unverified); x [..]; y `!` (change coming), `A`
--- (leap second coming) or blank." (01, Meinberg and ELV strings)
+-- (leap second coming) or blank. [..] 002 counts Sunday as 0; 1..7 holds." (01, Meinberg and ELV strings)
 unfoldable pub standardFields : List ℕ → ClockTime
 standardFields s =
     record {

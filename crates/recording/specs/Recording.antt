@@ -42,7 +42,7 @@ abbrev pub filling : FillAnswer → List ℕ → Exit (Unit {0}) (List ℕ)
 filling r outcomes = exit (fillAnswer r) outcomes
 
 -- the outcomes that are right: "the two are equally long and every place holds the number that this rule gives there"
--- (01, Tape and sheet)
+-- (01, Tape and sheet); "The tape may be empty." (01, Tape and sheet)
 unfoldable pub fillOutcomes : List ℕ → List ℕ → Exit (Unit {0}) (List ℕ)
 fillOutcomes marks outcomes =
     leaves outcomes (numbers (rule marks) (length marks))

@@ -1,0 +1,102 @@
+-- A string is accepted as a kind, and from C, exactly if the rules of that kind hold. Assumes nothing.
+use Prim.Native.Nat.{ℕ, _≤_}
+use mathlib.Core.Path.{_≡_, refl, ap, _∙_}
+use mathlib.Core.Logic.{_↔_}
+use mathlib.Core.List.{List, _++_}
+use lib.ListN.{length, drop}
+use lib.IntN.{ℤ}
+use borrow.Author.Tests.{le-ltb}
+use Rattle.clock_time.specs.Errors.{Answer, accepted, refused}
+use Rattle.clock_time.specs.Exit.{exit}
+use Rattle.meinberg_standard.specs.Standard.{readStandard}
+use Rattle.meinberg_standard.proofs.Theorems as standards
+use Rattle.meinberg_pzf.specs.Pzf.{readPzf}
+use Rattle.meinberg_pzf.proofs.Theorems as pzfs
+use Rattle.meinberg_gps.specs.Gps.{readGps}
+use Rattle.meinberg_gps.proofs.Theorems as gpss
+use Rattle.elv_dcf7000.specs.Elv.{readElv}
+use Rattle.elv_dcf7000.proofs.Theorems as elvs
+use Rattle.dcf77.specs.Accepts.{AcceptsMinute}
+use Rattle.dcf77.specs.Minute.{minuteFields, readMinute}
+use Rattle.dcf77.proofs.Theorems as minutes
+use Rattle.time_string.specs.Kind.{Reading, time, timeAndPosition, plain, located, readAs}
+use Rattle.time_string.specs.declared.Kind.{Kind}
+use Rattle.time_string.specs.declared.Kind.the-variants.{Standard, Pzf, Gps, Elv}
+use Rattle.clock_numbers.specs.Numbers.{minuteNumbers, putNumbers, putAnswer}
+use Rattle.fields_writer.specs.Writers.{kindNamed}
+use Rattle.radio_clock_readings.specs.Strings.{readingNumbers, readNumbered, readInto}
+use Rattle.radio_clock_readings.specs.Minutes.{readMinuteInto}
+use Rattle.demands.specs.Accepted.{AcceptsAs, readingAs}
+use Rattle.demands.proofs.RoundLaws.{refused-accepted, plain-time, located-time}
+
+-- ---- by kind
+-- a format's reader, whose answer is handed on as a reading
+module _
+    {A : Type 0} (wrap : Answer A → Answer Reading) (say : A → Reading)
+    (wrapped : (t : A) → wrap (accepted t) ≡ accepted (say t))
+    (unwrapped : (a : Answer A) (r : Reading) → wrap a ≡ accepted r → (t : A) × (a ≡ accepted t) × (r ≡ say t))
+  where
+    exactly : {Rules : Type 0} {fields : A} (answer : Answer A)
+        → ((t : A) → (answer ≡ accepted t) ↔ (Rules × (t ≡ fields)))
+        → (r : Reading) → (wrap answer ≡ accepted r) ↔ (Rules × (r ≡ say fields))
+    exactly {fields = fields} answer exact r = (
+      λ h. let w = unwrapped answer r h in let e = exact (w .0) .0 (w .1) in (e .0, w .2 ∙ ap say (e .1)),
+      λ h. rw (exact fields .1 (h .0, refl), h .1) (wrapped fields),
+    )
+
+pub read-as-exactly : (kind : Kind) (s : List ℕ) (r : Reading)
+    → (readAs kind s ≡ accepted r) ↔ (AcceptsAs kind s × (r ≡ readingAs kind s))
+unfolding readAs
+read-as-exactly Standard s =
+    exactly plain time (λ t. refl) plain-time (readStandard s) (standards.faithful .accepted-exactly s)
+read-as-exactly Pzf s = exactly plain time (λ t. refl) plain-time (readPzf s) (pzfs.faithful .accepted-exactly s)
+read-as-exactly Gps s =
+    exactly located timeAndPosition (λ t. refl) located-time (readGps s) (gpss.faithful .accepted-exactly s)
+read-as-exactly Elv s = exactly plain time (λ t. refl) plain-time (readElv s) (elvs.faithful .accepted-exactly s)
+
+-- ---- from C
+-- numbers of what was accepted, where there is room for them
+module _ {A : Type 0} (numbers : A → List ℤ) (fields : List ℤ) where
+  put-accepted : (a : A) → length (numbers a) ≤ length fields
+      → putAnswer numbers (accepted a) fields
+      ≡ exit (accepted tt) (numbers a ++ drop (length (numbers a)) fields)
+  unfolding putAnswer putNumbers
+  put-accepted a room = simp (le-ltb _ _ room)
+
+  accepted-put : (answer : Answer A) → putAnswer numbers answer fields .answer ≡ accepted tt
+      → (a : A) × (answer ≡ accepted a)
+  unfolding putAnswer
+  accepted-put (accepted a) h = (a, refl)
+  accepted-put (refused k) h = refused-accepted h
+
+module _ (n : ℕ) (kind : Kind) (named : kindNamed n ≡ accepted kind) (s : List ℕ) (fields : List ℤ) where
+  pub read-rules : readInto n s fields .answer ≡ accepted tt → AcceptsAs kind s
+  unfolding readInto readNumbered
+  read-rules h =
+      let a = accepted-put readingNumbers fields (readAs kind s) (rw named at h) in
+      read-as-exactly kind s (a .0) .0 (a .1) .0
+
+  pub read-numbers : AcceptsAs kind s → length (readingNumbers (readingAs kind s)) ≤ length fields
+      → readInto n s fields
+      ≡ exit (accepted tt)
+      (readingNumbers (readingAs kind s) ++ drop (length (readingNumbers (readingAs kind s))) fields)
+  unfolding readInto readNumbered
+  read-numbers h room =
+      rw (named, read-as-exactly kind s (readingAs kind s) .1 (h, refl))
+      (put-accepted readingNumbers fields (readingAs kind s) room)
+
+module _ (m : List ℕ) (fields : List ℤ) where
+  pub minute-rules : readMinuteInto m fields .answer ≡ accepted tt → AcceptsMinute m
+  unfolding readMinuteInto
+  minute-rules h =
+      let a = accepted-put minuteNumbers fields (readMinute m) h in
+      minutes.faithful .accepted-exactly m (a .0) .0 (a .1) .0
+
+  pub minute-numbers : AcceptsMinute m → length (minuteNumbers (minuteFields m)) ≤ length fields
+      → readMinuteInto m fields
+      ≡ exit (accepted tt)
+      (minuteNumbers (minuteFields m) ++ drop (length (minuteNumbers (minuteFields m))) fields)
+  unfolding readMinuteInto
+  minute-numbers h room =
+      rw (minutes.faithful .accepted-exactly m (minuteFields m) .1 (h, refl))
+      (put-accepted minuteNumbers fields (minuteFields m) room)

@@ -139,6 +139,18 @@ first-is-after m p g f =
       | no q ↦ absurd (f .nearest (r .0) (d .0) (omega (arith, r .2)) (d .2))
     ]
 
+-- no gap lies between a place and the first gap after it
+pub before-first : (m : List ℕ) (p g : ℕ) → gapAfter m p ≡ some g → gapBefore m g ≡ gapBefore m (p + 1)
+before-first m p g e = go g (after-in m p g e .0) (omega arith)
+  where
+    go : (k : ℕ) → p < k → k ≤ g → gapBefore m k ≡ gapBefore m (p + 1)
+    go zero h l = absurd (not-suc-le-zero h)
+    go (suc k) h l = elim (ℕ-discrete k p) [
+      | yes q ↦ rw (q, add-one)
+      | no q ↦ before-more m (suc k) k refl (after-is-first m p g e .nearest k (omega arith) (omega arith))
+          ∙ go k (omega arith) (omega arith)
+    ]
+
 -- the marks before and after a correction have the same first gap after its place
 pub first-set : (m : List ℕ) (p v g : ℕ) → FirstGapAfter m p g ↔ FirstGapAfter (set m p v) p g
 first-set m p v g = (

@@ -1,6 +1,6 @@
 // The gaps next to a place of a recording.
 ghost use mathlib.Core.Path.{_≡_};
-ghost use Prim.Native.Nat.{_<_, _≤_};
+ghost use Prim.Native.Nat.{_+_, _<_, _≤_};
 ghost use lib.ListN.{length};
 ghost use Rattle.recording.specs.Gaps.{gapBefore, gapAfter, gapOf};
 
@@ -38,4 +38,16 @@ pub(crate) fn gap_after(marks: &[u8], place: usize) -> Gap
         i += 1;
     }
     Gap::Nothing
+}
+
+// The nearest gap up to a place: the place itself where it is one, else the nearest before it.
+pub(crate) fn gap_up_to(marks: &[u8], place: usize, before: Gap) -> Gap
+    requires { ⌜ (place < length (now marks)) × (gapOf before ≡ gapBefore (now marks) place) ⌝ }
+    ensures { λ r. ⌜ gapOf r ≡ gapBefore (now (marks .entry)) (place + 1) ⌝ }
+{
+    if marks[place] == 2 {
+        Gap::At(place)
+    } else {
+        before
+    }
 }

@@ -1,0 +1,17 @@
+-- `recording::numbers::number_after` meets its contract. Assumes nothing.
+use borrow.Author.Needs.{needs}
+use mathlib.Core.Path.{sym, _∙_}
+use Rattle.recording.proofs.RuleLaws.{rule-none, rule-gap}
+use Rattle.recording.proofs.numbers.number_after.Statement.{statement}
+use Rattle.recording.proofs.numbers.number_after.Tie as tie
+
+returns : tie.Need-returns
+returns c = sym (rule-none _ _ _ (c .if1 .taken))
+
+returns-2 : tie.Need-returns-2
+returns-2 c =
+    c .number-at-gap .ensures
+    ∙ sym (rule-gap _ _ _ _ (c .before .if1 .left) (sym (c .before .before .before .before .pre .1)))
+
+pub number-after-spec : {M : Type 1} → statement M
+number-after-spec = tie.close (tie.spec (λ c. search needs) returns (λ c κs. search needs) returns-2)

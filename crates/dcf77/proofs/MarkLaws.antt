@@ -8,16 +8,16 @@ use native.Mathlib.Omega.{arith}
 use mathlib.Core.Path.{_≡_, refl, sym, ap, _∙_}
 use mathlib.Core.Bool.{Bool, true, false, _&&_, and-assoc}
 use mathlib.Core.List.{List, [], _∷_}
-use lib.Dec.{ltb, eqb, lit<}
+use lib.Dec.{ltb, leb, eqb, lit<}
 use lib.ListN.{length, getD, List·getD-eq-default}
 use lib.Bits.{bitAnd, and-high, and-zero-l}
 use lib.Count.{ones, ones-step}
 use lib.Arith.{digits-div, digits-mod}
-use borrow.Author.Tests.{ltb-true, lt-ltb, le-ltb, eq-eqb, ne-eqb}
+use borrow.Author.Tests.{leb-true, ltb-true, lt-ltb, le-ltb, lt-leb, le-leb, eq-eqb, ne-eqb}
 use Rattle.bits.proofs.ByteLaws.{zero-block}
 use Rattle.clock_time.proofs.Tests.{both}
-use Rattle.dcf77.specs.Marks.{allSure, binary, longs}
-use Rattle.dcf77.specs.Numbers.{sureFrom, fourBytes}
+use Rattle.dcf77.specs.Marks.{allSure, sureFrom, eightSure, binary, longs}
+use Rattle.dcf77.specs.Numbers.{fourBytes}
 
 -- ---- sure marks
 pub sure-small : (m : List ℕ) → allSure m ≡ true → (k : ℕ) → getD m k 0 ≤ 1
@@ -97,6 +97,23 @@ small-from : (m : List ℕ) → ((i : ℕ) → getD m i 0 ≤ 1) → (k at : ℕ
 unfolding sureFrom
 small-from m h zero at = refl
 small-from m h (suc k) at = simp (lt-ltb (getD m at 0) 2 (omega (arith, h at)), small-from m h k (suc at))
+
+-- ---- eight marks that are there, and are sure
+module _ (at : ℕ) (m : List ℕ) where
+  pub eight-past : length m < at + 8 → false ≡ eightSure at m
+  unfolding eightSure
+  eight-past h = simp (lt-leb _ _ h)
+
+  pub eight-there : at + 8 ≤ length m → sureFrom 8 at m ≡ eightSure at m
+  unfolding eightSure
+  eight-there h = simp (le-leb _ _ h)
+
+  pub eight-small : eightSure at m ≡ true
+      → (at + 8 ≤ length m) × ((i : ℕ) → at ≤ i → i < at + 8 → getD m i 0 ≤ 1)
+  unfolding eightSure
+  eight-small h =
+      let w = both (leb (at + 8) (length m)) (sureFrom 8 at m) h in
+      (leb-true (at + 8) (length m) (w .0), from-small m 8 at (w .1))
 
 -- two tests are the same if each passes where the other does
 pub same-test : (t u : Bool) → (t ≡ true → u ≡ true) → (u ≡ true → t ≡ true) → t ≡ u

@@ -2,8 +2,8 @@
 use Prim.Native.Nat.{ℕ, zero, suc, _+_, _*_, _/_, _%_}
 use mathlib.Core.Bool.{Bool, true, not, _&&_}
 use mathlib.Core.List.{List, [], _∷_}
-use lib.Dec.{ltb, eqb}
-use lib.ListN.{getD}
+use lib.Dec.{leb, ltb, eqb}
+use lib.ListN.{length, getD}
 
 -- "Mark 0 short (100 ms), 1 long (200 ms)" (01, DCF77 marks)
 abbrev pub long : ℕ → List ℕ → Bool
@@ -17,6 +17,15 @@ short at m = eqb (getD m at 0) 0
 unfoldable pub allSure : List ℕ → Bool
 allSure [] = true
 allSure (b ∷ m) = ltb b 2 && allSure m
+
+-- k marks from a place on are so
+unfoldable pub sureFrom : ℕ → ℕ → List ℕ → Bool
+sureFrom zero at m = true
+sureFrom (suc k) at m = ltb (getD m at 0) 2 && sureFrom k (suc at) m
+
+-- eight marks from a place on are there, and are so
+unfoldable pub eightSure : ℕ → List ℕ → Bool
+eightSure at m = leb (at + 8) (length m) && sureFrom 8 at m
 
 -- "Lowest bit first" (01, DCF77 marks): the number that k marks from a place on stand for
 unfoldable pub binary : ℕ → ℕ → List ℕ → ℕ

@@ -1,5 +1,5 @@
 -- What the private functions require and ensure: runs of marks as numbers. Assumes nothing.
-use Prim.Native.Nat.{ℕ, zero, suc, _+_, _*_, _/_, _%_, _≤_}
+use Prim.Native.Nat.{ℕ, _+_, _*_, _/_, _%_, _≤_}
 use mathlib.Core.Path.{_≡_}
 use mathlib.Core.Bool.{Bool, true, cond, not, _&&_}
 use mathlib.Core.List.{List, [], _∷_}
@@ -21,11 +21,6 @@ pub record Numbers (m : List ℕ) (n h d : ℕ) : Type 0 where
   pub minute : n ≡ binary 8 21 m
   pub hour : h ≡ binary 7 29 m
   pub date : d ≡ binary 23 36 m
-
--- k marks from a place on are short or long
-unfoldable pub sureFrom : ℕ → ℕ → List ℕ → Bool
-sureFrom zero at m = true
-sureFrom (suc k) at m = ltb (getD m at 0) 2 && sureFrom k (suc at) m
 
 -- four bytes from a place on as one number
 abbrev pub fourBytes : ℕ → List ℕ → ℕ

@@ -5,7 +5,7 @@ use clock_time::MinuteDetail;
 ghost use mathlib.Core.Path.{_≡_};
 ghost use Rattle.dcf77.specs.Minute.{readMinute, minuteAnswer};
 
-mod marks;
+pub mod marks;
 mod reading;
 
 // The time that a minute announces, with its marks 1 to 14 and whether it had 60.

@@ -5,8 +5,8 @@ ghost use Prim.Native.Nat.{_+_, _*_, _%_, _≤_, _<_};
 ghost use lib.Dec.{eqb};
 ghost use lib.ListN.{length};
 ghost use lib.Count.{ones};
-ghost use Rattle.dcf77.specs.Marks.{allSure, binary};
-ghost use Rattle.dcf77.specs.Numbers.{Sure, sureFrom, fourBytes};
+ghost use Rattle.dcf77.specs.Marks.{allSure, sureFrom, eightSure, binary};
+ghost use Rattle.dcf77.specs.Numbers.{Sure, fourBytes};
 
 // True where eight marks are short or long: no bit but the lowest is set in any of the bytes.
 fn eight_sure(m: &[u8], at: usize) -> bool
@@ -24,6 +24,19 @@ fn eight_sure(m: &[u8], at: usize) -> bool
         m[at + 7],
     );
     bytes & 18374403900871474942 == 0
+}
+
+// True where eight marks from a place on are there, and all of them are short or long.
+pub fn are_eight_sure(m: &[u8], at: usize) -> bool
+    ensures { λ r. ⌜ r ≡ eightSure at (now (m .entry)) ⌝ }
+{
+    if m.len() < 8 {
+        return false;
+    }
+    if m.len() - 8 < at {
+        return false;
+    }
+    eight_sure(m, at)
 }
 
 // True where every mark of a run is short or long. The last eight are taken from the end, so that some are read twice.

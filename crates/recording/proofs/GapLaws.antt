@@ -6,11 +6,14 @@ use native.Mathlib.Numerals.{add-one}
 use native.Mathlib.Omega.{arith}
 use mathlib.Core.Path.{_≡_, refl, sym, ap, _∙_}
 use mathlib.Core.Logic.{_↔_}
+use mathlib.Core.Bool.{true}
 use mathlib.Core.List.{List, [], _∷_}
 use mathlib.Core.Option.{Option, none, some}
 use lib.ListN.{length, getD, drop, set, length-drop, drop-of-length-le}
 use lib.Seq.{drop-cons, getD-set-other, drop-set-lt, getD-drop}
 use borrow.Author.Tests.{eq-eqb, ne-eqb}
+use Rattle.dcf77.specs.Marks.{eightSure}
+use Rattle.dcf77.proofs.MarkLaws.{eight-small}
 use Rattle.recording.specs.Gaps.{gapBefore, firstGap, gapAfter, FirstGapAfter}
 
 -- ---- what is found is one place
@@ -57,6 +60,36 @@ before-earlier m (suc i) g e =
       | yes q ↦ let z : i ≡ g = some-one _ i g (before-gap m (suc i) i refl q) e in omega arith
       | no q ↦ let l : g < i = before-earlier m i g (sym (before-more m (suc i) i refl q) ∙ e) in omega arith
     ]
+
+-- ---- past places that are no gaps
+-- what is the same at each place and the next is the same at the first and the last
+steady : (f : ℕ → Option ℕ) (i k : ℕ) → i ≤ k → ((j : ℕ) → i ≤ j → j < k → f j ≡ f (j + 1)) → f i ≡ f k
+steady f i zero h s = ap f (omega arith)
+steady f i (suc k) h s =
+    elim (ℕ-discrete i (suc k)) [
+      | yes e ↦ ap f e
+      | no e ↦ steady f i k (omega arith) (λ j a b. s j a (omega arith))
+          ∙ s k (omega arith) (omega arith)
+          ∙ ap f (add-one k)
+    ]
+
+module _ (m : List ℕ) (i k : ℕ) (h : i ≤ k) (n : (j : ℕ) → i ≤ j → j < k → getD m j 0 ≡ 2 → ⊥) where
+  before-past : gapBefore m i ≡ gapBefore m k
+  before-past = steady (gapBefore m) i k h (λ j a b. sym (before-more m (j + 1) j (add-one j) (n j a b)))
+
+  after-past : k ≤ length m → firstGap (drop i m) i ≡ firstGap (drop k m) k
+  after-past l = steady (λ j. firstGap (drop j m) j) i k h (λ j a b. after-more m j (omega arith) (n j a b))
+
+-- eight marks that are short or long
+module _ (m : List ℕ) (i : ℕ) (s : eightSure i m ≡ true) where
+  no-gap : (j : ℕ) → i ≤ j → j < i + 8 → getD m j 0 ≡ 2 → ⊥
+  no-gap j a b e = omega (arith, eight-small i m s .1 j a b)
+
+  pub before-eight : (k : ℕ) → k ≡ i + 8 → gapBefore m i ≡ gapBefore m k
+  before-eight k e = rw e (before-past m i (i + 8) (omega arith) no-gap)
+
+  pub after-eight : firstGap (drop i m) i ≡ firstGap (drop (i + 8) m) (i + 8)
+  after-eight = after-past m i (i + 8) (omega arith) no-gap (eight-small i m s .0)
 
 -- ---- a mark v at place p
 pub before-set : (m : List ℕ) (p v i : ℕ) → i ≤ p → gapBefore (set m p v) i ≡ gapBefore m i
@@ -140,16 +173,10 @@ first-is-after m p g f =
     ]
 
 -- no gap lies between a place and the first gap after it
-pub before-first : (m : List ℕ) (p g : ℕ) → gapAfter m p ≡ some g → gapBefore m g ≡ gapBefore m (p + 1)
-before-first m p g e = go g (after-in m p g e .0) (omega arith)
-  where
-    go : (k : ℕ) → p < k → k ≤ g → gapBefore m k ≡ gapBefore m (p + 1)
-    go zero h l = absurd (not-suc-le-zero h)
-    go (suc k) h l = elim (ℕ-discrete k p) [
-      | yes q ↦ rw (q, add-one)
-      | no q ↦ before-more m (suc k) k refl (after-is-first m p g e .nearest k (omega arith) (omega arith))
-          ∙ go k (omega arith) (omega arith)
-    ]
+pub before-first : (m : List ℕ) (p g : ℕ) → gapAfter m p ≡ some g → gapBefore m (p + 1) ≡ gapBefore m g
+before-first m p g e =
+    let f = after-is-first m p g e in
+    before-past m (p + 1) g (omega (arith, f .later)) (λ j a b. f .nearest j (omega arith) b)
 
 -- the marks before and after a correction have the same first gap after its place
 pub first-set : (m : List ℕ) (p v g : ℕ) → FirstGapAfter m p g ↔ FirstGapAfter (set m p v) p g

@@ -16,7 +16,7 @@ abbrev μ-loop : tie.MeasureT-loop
 μ-loop marks place i₀ i = length marks - i
 
 loop-holds : tie.Need-loop-holds Inv-loop μ-loop
-loop-holds c = after-start _ _
+loop-holds c = c .pass-on .ensures ∙ after-start _ _
 
 returns : tie.Need-returns Inv-loop μ-loop
 returns c =
@@ -32,5 +32,5 @@ returns-2 c = sym (after-end _ _ (c .loop-test .left)) ∙ c .before .loop .inv
 pub gap-after-spec : {M : Type 1} → statement M
 gap-after-spec =
     tie.close
-    (tie.spec Inv-loop μ-loop (λ c. search needs) loop-holds (λ c. search needs) returns (λ c. search needs)
-    (λ c. search needs) loop-again returns-2)
+    (tie.spec Inv-loop μ-loop (λ c. search needs) (λ c κs. search needs) loop-holds (λ c. search needs) returns
+    (λ c. search needs) (λ c. search needs) loop-again returns-2)

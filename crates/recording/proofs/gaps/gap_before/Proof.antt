@@ -30,5 +30,5 @@ returns-2 c = sym (before-start _ _ (omega arith)) ∙ c .before .loop .inv .1
 pub gap-before-spec : {M : Type 1} → statement M
 gap-before-spec =
     tie.close
-    (tie.spec Inv-loop μ-loop (λ c. search needs) (λ c. search needs) (λ c. search needs) returns (λ c. search needs)
-    loop-again returns-2)
+    (tie.spec Inv-loop μ-loop (λ c κs. search needs) (λ c. search needs) (λ c. search needs) (λ c. search needs) returns
+    (λ c. search needs) loop-again returns-2)

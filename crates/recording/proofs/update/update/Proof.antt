@@ -14,7 +14,7 @@ renew-requires-2 c κs =
     let d = c .before .before .before in
     let e = sym (d .before .before .gap-after .ensures) ∙ ap gapOf (d .gap .given .1) in
     let h = after-in _ _ _ e in
-    let q = c .before .gap-up-to .ensures ∙ sym (before-first _ _ _ e) in
+    let q = c .before .gap-up-to .ensures ∙ before-first _ _ _ e in
     search needs
 
 add-result : tie.Need-add-result

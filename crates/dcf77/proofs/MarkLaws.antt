@@ -14,7 +14,7 @@ use lib.Bits.{bitAnd, and-high, and-zero-l}
 use lib.Count.{ones, ones-step}
 use lib.Arith.{digits-div, digits-mod}
 use borrow.Author.Tests.{leb-true, ltb-true, lt-ltb, le-ltb, lt-leb, le-leb, eq-eqb, ne-eqb}
-use Rattle.bits.proofs.ByteLaws.{zero-block}
+use Rattle.bits.proofs.ByteLaws.{zero-block, word}
 use Rattle.clock_time.proofs.Tests.{both}
 use Rattle.dcf77.specs.Marks.{allSure, sureFrom, eightSure, binary, longs}
 use Rattle.dcf77.specs.Numbers.{fourBytes}
@@ -33,11 +33,7 @@ small-sure (b ∷ m) h =
     let first : b ≤ 1 = h 0 in
     simp (lt-ltb b 2 (omega arith), small-sure m (λ k. h (suc k)))
 
--- eight bytes as one number, in which no bit but the lowest of each byte is set where they are sure
-abbrev word : ℕ → ℕ → List ℕ → ℕ
-word zero at m = 0
-word (suc k) at m = word k (suc at) m * 256 + getD m at 0
-
+-- the bits that no sure mark has, in k bytes
 abbrev highs : ℕ → ℕ
 highs zero = 0
 highs (suc k) = highs k * 256 + 254
@@ -62,17 +58,8 @@ module _ (m : List ℕ) (bytes : (i : ℕ) → getD m i 0 < 256) where
       zero-block (word k (suc at) m) (highs k) (getD m at 0) 254 (bytes at) (lit< tt)
       ∙ rw (sure-byte (getD m at 0) (bytes at), sure-word k (suc at))
 
-  pub eight-sure : (at n : ℕ)
-      → n ≡ ((((((getD m (at + 7) 0 * 256 + getD m (at + 6) 0) * 256 + getD m (at + 5) 0) * 256
-      + getD m (at + 4) 0) * 256 + getD m (at + 3) 0) * 256 + getD m (at + 2) 0) * 256 + getD m (at + 1) 0) * 256
-      + getD m at 0
-      → eqb (bitAnd n 18374403900871474942) 0 ≡ sureFrom 8 at m
-  eight-sure at n e =
-      let same : n ≡ word 8 at m =
-      e
-      ∙ rw (add-suc at 6, add-suc at 5, add-suc at 4, add-suc at 3, add-suc at 2, add-suc at 1, add-one at)
-      (omega arith) in
-      rw same (sure-word 8 at)
+  pub eight-sure : (at n : ℕ) → n ≡ word 8 at m → eqb (bitAnd n 18374403900871474942) 0 ≡ sureFrom 8 at m
+  eight-sure at n e = rw e (sure-word 8 at)
 
 -- ---- a run of which all parts are sure
 from-join : (m : List ℕ) (j k at : ℕ) → (sureFrom j at m && sureFrom k (j + at) m) ≡ sureFrom (j + k) at m

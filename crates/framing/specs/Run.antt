@@ -1,10 +1,10 @@
 -- What the private functions promise to the feed. Assumes nothing.
-use Prim.Native.Nat.{ℕ, _≤_}
+use Prim.Native.Nat.{ℕ, zero, suc, _+_, _≤_, _<_}
 use mathlib.Core.Path.{_≡_}
 use mathlib.Core.Bool.{false, _||_}
 use mathlib.Core.List.{List}
 use lib.Dec.{eqb}
-use lib.ListN.{length, drop}
+use lib.ListN.{length, getD, set, drop}
 use Rattle.framing.specs.declared.Framer.{Framer}
 use Rattle.framing.specs.declared.single.Moved.{Moved}
 use Rattle.framing.specs.Step.{Stepped, nothingYet, stepTo, answerOf, framerOf, stepOf}
@@ -26,3 +26,12 @@ Still f last = (b : ℕ) → eqb b 2 || eqb b last ≡ false → stepOf f b ≡ 
 -- the first n bytes of s are taken with no effect, in a state that bytes other than STX and `last` leave as it is
 abbrev pub Skipped : List ℕ → ℕ → ℕ → Type 0
 Skipped s last n = (f : Framer) → Still f last → Taken f s n f
+
+-- none of the n bytes of s from the place `at` on is STX or ETX
+abbrev pub Plain : List ℕ → ℕ → ℕ → Type 0
+Plain s at n = (i : ℕ) → at ≤ i → i < at + n → eqb (getD s i 0) 2 || eqb (getD s i 0) 3 ≡ false
+
+-- the kept bytes, with the n bytes of s from the place `at` on copied to the places from `to` on
+abbrev pub copied : List ℕ → ℕ → List ℕ → ℕ → ℕ → List ℕ
+copied bytes to s at zero = bytes
+copied bytes to s at (suc n) = set (copied bytes to s at n) (to + n) (getD s (at + n) 0)

@@ -18,12 +18,13 @@ unfoldable pub allSure : List ℕ → Bool
 allSure [] = true
 allSure (b ∷ m) = ltb b 2 && allSure m
 
--- k marks from a place on are so
+-- "Mark 0 short (100 ms), 1 long (200 ms)" (01, DCF77 marks): k marks from a place on are one or the other
 unfoldable pub sureFrom : ℕ → ℕ → List ℕ → Bool
 sureFrom zero at m = true
 sureFrom (suc k) at m = ltb (getD m at 0) 2 && sureFrom k (suc at) m
 
--- eight marks from a place on are there, and are so
+-- "Mark 0 short (100 ms), 1 long (200 ms)" (01, DCF77 marks): eight marks from a place on are there, and are one or the
+-- other
 unfoldable pub eightSure : ℕ → List ℕ → Bool
 eightSure at m = leb (at + 8) (length m) && sureFrom 8 at m
 

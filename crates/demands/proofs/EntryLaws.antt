@@ -20,7 +20,7 @@ use Rattle.meinberg_standard.specs.Standard.{standard, standardFields, standard
 use Rattle.meinberg_pzf.specs.Pzf.{pzf, pzfFields, pzfText, readPzf, writePzf}
 use Rattle.meinberg_gps.specs.Gps.{gps, gpsFields, gpsText, readGps, writeGps}
 use Rattle.elv_dcf7000.specs.Elv.{elv, elvFields, elvText, readElv, writeElv}
-use Rattle.time_string.specs.Kind.{kindOf, Reading, plain, located, time, timeAndPosition, readAs}
+use Rattle.time_string.specs.Kind.{kindOf, plain, located, time, timeAndPosition, readAs}
 use Rattle.time_string.specs.declared.Kind.{Kind}
 use Rattle.time_string.specs.declared.Kind.the-variants.{Standard, Pzf, Gps, Elv}
 use Rattle.dcf77.specs.Minute.{minuteChecks, minuteFields, minuteText, sameMinute, readMinute, writeMinute}

@@ -20,7 +20,7 @@ AcceptsAs Pzf s = AcceptsPzf s
 AcceptsAs Gps s = AcceptsGps s
 AcceptsAs Elv s = AcceptsElv s
 
--- the reading that those rules give
+-- "then every field, offset and flag is the one those rules give" (demand 2): the reading
 abbrev pub readingAs : Kind → List ℕ → Reading
 readingAs Standard s = time (standardFields s)
 readingAs Pzf s = time (pzfFields s)

@@ -27,7 +27,7 @@ Still f last = (b : ℕ) → eqb b 2 || eqb b last ≡ false → stepOf f b ≡ 
 abbrev pub Skipped : List ℕ → ℕ → ℕ → Type 0
 Skipped s last n = (f : Framer) → Still f last → Taken f s n f
 
--- none of the n bytes of s from the place `at` on is STX or ETX
+-- "STX is 2, ETX is 3." (01, Meinberg and ELV strings): none of the n bytes of s from the place `at` on is either
 abbrev pub Plain : List ℕ → ℕ → ℕ → Type 0
 Plain s at n = (i : ℕ) → at ≤ i → i < at + n → eqb (getD s i 0) 2 || eqb (getD s i 0) 3 ≡ false
 

@@ -13,7 +13,7 @@ use Rattle.calendar.specs.TimeOfDay.{timeExists, utcMinute}
 use Rattle.calendar.specs.UnixTime.{offsetInRange, isValid}
 use Rattle.gregorian.proofs.DateLaws.{Known, known, known-exists}
 
-sixty-most : (second : ℕ) (b : Bool) → (ltb second 60 || eqb second 60 && b) ≡ true → second ≤ 60
+pub sixty-most : (second : ℕ) (b : Bool) → (ltb second 60 || eqb second 60 && b) ≡ true → second ≤ 60
 sixty-most second b h = go (ltb second 60) refl h
   where
     go : (t : Bool) → ltb second 60 ≡ t → (t || eqb second 60 && b) ≡ true → second ≤ 60

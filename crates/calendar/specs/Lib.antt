@@ -2,3 +2,4 @@
 pub mod DateAnswer
 pub mod TimeOfDay
 pub mod UnixTime
+pub mod Rules

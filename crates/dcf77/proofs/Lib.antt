@@ -3,6 +3,7 @@ pub mod MarkLaws
 pub mod NumberLaws
 pub mod CheckLaws
 pub mod AcceptLaws
+pub mod SaysLaws
 pub mod BitLaws
 pub mod BackLaws
 pub mod SameLaws

@@ -4,3 +4,4 @@ pub mod Minute
 pub mod Accepts
 pub mod Numbers
 pub mod Writable
+pub mod Says

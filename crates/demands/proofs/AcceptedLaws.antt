@@ -1,6 +1,6 @@
 -- A string is accepted as a kind, and from C, exactly if the rules of that kind hold. Assumes nothing.
 use Prim.Native.Nat.{ℕ, _≤_}
-use mathlib.Core.Path.{_≡_, refl, ap, _∙_}
+use mathlib.Core.Path.{_≡_, refl}
 use mathlib.Core.Logic.{_↔_}
 use mathlib.Core.List.{List, _++_}
 use lib.ListN.{length, drop}
@@ -26,7 +26,7 @@ use Rattle.clock_numbers.specs.Numbers.{minuteNumbers, putNumbers, putAnswer}
 use Rattle.fields_writer.specs.Writers.{kindNamed}
 use Rattle.radio_clock_readings.specs.Strings.{readingNumbers, readNumbered, readInto}
 use Rattle.radio_clock_readings.specs.Minutes.{readMinuteInto}
-use Rattle.demands.specs.Accepted.{AcceptsAs, readingAs}
+use Rattle.demands.specs.Accepted.{Hands, AcceptsAs}
 use Rattle.demands.proofs.RoundLaws.{refused-accepted, plain-time, located-time}
 
 -- ---- by kind
@@ -36,16 +36,15 @@ module _
     (wrapped : (t : A) → wrap (accepted t) ≡ accepted (say t))
     (unwrapped : (a : Answer A) (r : Reading) → wrap a ≡ accepted r → (t : A) × (a ≡ accepted t) × (r ≡ say t))
   where
-    exactly : {Rules : Type 0} {fields : A} (answer : Answer A)
-        → ((t : A) → (answer ≡ accepted t) ↔ (Rules × (t ≡ fields)))
-        → (r : Reading) → (wrap answer ≡ accepted r) ↔ (Rules × (r ≡ say fields))
-    exactly {fields = fields} answer exact r = (
-      λ h. let w = unwrapped answer r h in let e = exact (w .0) .0 (w .1) in (e .0, w .2 ∙ ap say (e .1)),
-      λ h. rw (exact fields .1 (h .0, refl), h .1) (wrapped fields),
+    exactly : {Accepts : A → Type 0} (answer : Answer A) → ((t : A) → (answer ≡ accepted t) ↔ Accepts t)
+        → (r : Reading) → (wrap answer ≡ accepted r) ↔ Hands say Accepts r
+    exactly answer exact r = (
+      λ h. let w = unwrapped answer r h in (w .0, (exact (w .0) .0 (w .1), w .2)),
+      λ h. rw (exact (h .0) .1 (h .1 .0), h .1 .1) (wrapped (h .0)),
     )
 
 pub read-as-exactly : (kind : Kind) (s : List ℕ) (r : Reading)
-    → (readAs kind s ≡ accepted r) ↔ (AcceptsAs kind s × (r ≡ readingAs kind s))
+    → (readAs kind s ≡ accepted r) ↔ AcceptsAs kind s r
 unfolding readAs
 read-as-exactly Standard s =
     exactly plain time (λ t. refl) plain-time (readStandard s) (standards.faithful .accepted-exactly s)
@@ -70,20 +69,17 @@ module _ {A : Type 0} (numbers : A → List ℤ) (fields : List ℤ) where
   accepted-put (refused k) h = refused-accepted h
 
 module _ (n : ℕ) (kind : Kind) (named : kindNamed n ≡ accepted kind) (s : List ℕ) (fields : List ℤ) where
-  pub read-rules : readInto n s fields .answer ≡ accepted tt → AcceptsAs kind s
+  pub read-rules : readInto n s fields .answer ≡ accepted tt → (r : Reading) × AcceptsAs kind s r
   unfolding readInto readNumbered
   read-rules h =
       let a = accepted-put readingNumbers fields (readAs kind s) (rw named at h) in
-      read-as-exactly kind s (a .0) .0 (a .1) .0
+      (a .0, read-as-exactly kind s (a .0) .0 (a .1))
 
-  pub read-numbers : AcceptsAs kind s → length (readingNumbers (readingAs kind s)) ≤ length fields
-      → readInto n s fields
-      ≡ exit (accepted tt)
-      (readingNumbers (readingAs kind s) ++ drop (length (readingNumbers (readingAs kind s))) fields)
+  pub read-numbers : (r : Reading) → AcceptsAs kind s r → length (readingNumbers r) ≤ length fields
+      → readInto n s fields ≡ exit (accepted tt) (readingNumbers r ++ drop (length (readingNumbers r)) fields)
   unfolding readInto readNumbered
-  read-numbers h room =
-      rw (named, read-as-exactly kind s (readingAs kind s) .1 (h, refl))
-      (put-accepted readingNumbers fields (readingAs kind s) room)
+  read-numbers r h room =
+      rw (named, read-as-exactly kind s r .1 h) (put-accepted readingNumbers fields r room)
 
 module _ (m : List ℕ) (fields : List ℤ) where
   pub minute-rules : readMinuteInto m fields .answer ≡ accepted tt → AcceptsMinute m

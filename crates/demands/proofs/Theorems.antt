@@ -13,7 +13,7 @@ use lib.ListN.{length, getD, set, drop}
 use lib.IntN.{ℤ}
 use Rattle.clock_time.specs.Errors.{accepted, refused, given, checked}
 use Rattle.clock_time.specs.Exit.{exit}
-use Rattle.clock_time.specs.Faithful.{Faithful}
+use Rattle.clock_time.specs.Faithful.{Faithful, ByFields}
 use Rattle.clock_time.specs.Writing.{writing, writeBack}
 use Rattle.clock_time.specs.declared.ClockTime.{ClockTime}
 use Rattle.gregorian.specs.Date.{knownDate, daysSinceEpoch, dayNumber, weekdayNumber, weekdayOf}
@@ -21,10 +21,10 @@ use Rattle.calendar.specs.UnixTime.{isValid, instantOf, unixTime}
 use Rattle.decimal.specs.Decimal.{value, digits, firstNonDigit, readDigits, writeDigits}
 use Rattle.layout.specs.Text.{Format, clockChecks, textChecks, readText, writeText}
 use Rattle.meinberg_standard.specs.Accepts.{AcceptsStandard}
-use Rattle.meinberg_standard.specs.Standard.{standard, standardFields, readStandard, writeStandard}
+use Rattle.meinberg_standard.specs.Standard.{standard, readStandard, writeStandard}
 use Rattle.meinberg_standard.proofs.Theorems as standards
 use Rattle.meinberg_pzf.specs.Accepts.{AcceptsPzf}
-use Rattle.meinberg_pzf.specs.Pzf.{pzf, pzfFields, readPzf, writePzf}
+use Rattle.meinberg_pzf.specs.Pzf.{pzf, readPzf, writePzf}
 use Rattle.meinberg_pzf.proofs.Theorems as pzfs
 use Rattle.gps_position.specs.Position.{positionFault, positionOf, readPosition}
 use Rattle.meinberg_gps.specs.Accepts.{AcceptsGps}
@@ -305,37 +305,35 @@ c-feed old s limit = from-left tt old _ (given 20 (ltb (length (old .state)) 68)
 -- "A string or a DCF77 minute is accepted exactly when the rules in document 01 hold, and then every field, offset and
 -- flag is the one those rules give. Written back, an accepted reading gives the same bytes or marks. Given room enough,
 -- a writer refuses a reading exactly when nothing acceptable in that format reads as it."
-pub standard-faithful : Faithful AcceptsStandard standardFields readStandard writeStandard
+pub standard-faithful : Faithful AcceptsStandard readStandard writeStandard
 standard-faithful = standards.faithful
 
-pub pzf-faithful : Faithful AcceptsPzf pzfFields readPzf writePzf
+pub pzf-faithful : Faithful AcceptsPzf readPzf writePzf
 pzf-faithful = pzfs.faithful
 
-pub gps-faithful : Faithful AcceptsGps gpsFields readGps writeGps
+pub gps-faithful : Faithful (ByFields AcceptsGps gpsFields) readGps writeGps
 gps-faithful = gpss.faithful
 
-pub elv-faithful : Faithful AcceptsElv elvFields readElv writeElv
+pub elv-faithful : Faithful (ByFields AcceptsElv elvFields) readElv writeElv
 elv-faithful = elvs.faithful
 
-pub minute-faithful : Faithful AcceptsMinute minuteFields readMinute writeMinute
+pub minute-faithful : Faithful (ByFields AcceptsMinute minuteFields) readMinute writeMinute
 minute-faithful = minutes.faithful
 
 -- "A string or a DCF77 minute is accepted exactly when the rules in document 01 hold, and then every field, offset and
 -- flag is the one those rules give.": by the kind that the caller names, and from C, where a reading is an array of
 -- numbers and has room in what was lent
 pub by-kind-exactly : (kind : Kind) (s : List ℕ) (r : Reading)
-    → (readAs kind s ≡ accepted r) ↔ (AcceptsAs kind s × (r ≡ readingAs kind s))
+    → (readAs kind s ≡ accepted r) ↔ AcceptsAs kind s r
 by-kind-exactly = rules.read-as-exactly
 
 pub c-accepted : (n : ℕ) (kind : Kind) → kindNamed n ≡ accepted kind → (s : List ℕ) (fields : List ℤ)
-    → readInto n s fields .answer ≡ accepted tt → AcceptsAs kind s
+    → readInto n s fields .answer ≡ accepted tt → (r : Reading) × AcceptsAs kind s r
 c-accepted = rules.read-rules
 
 pub c-fields : (n : ℕ) (kind : Kind) → kindNamed n ≡ accepted kind → (s : List ℕ) (fields : List ℤ)
-    → AcceptsAs kind s → length (readingNumbers (readingAs kind s)) ≤ length fields
-    → readInto n s fields
-    ≡ exit (accepted tt)
-    (readingNumbers (readingAs kind s) ++ drop (length (readingNumbers (readingAs kind s))) fields)
+    (r : Reading) → AcceptsAs kind s r → length (readingNumbers r) ≤ length fields
+    → readInto n s fields ≡ exit (accepted tt) (readingNumbers r ++ drop (length (readingNumbers r)) fields)
 c-fields = rules.read-numbers
 
 pub c-minute-accepted : (m : List ℕ) (fields : List ℤ) → readMinuteInto m fields .answer ≡ accepted tt

@@ -133,7 +133,7 @@ flagSum-bytes a b c =
     eqb-true _ _
     (every-flags (λ a b c. eqb (boolByte a + 2 * boolByte b + 4 * boolByte c) (flagSum a b c)) refl a b c)
 
-flagSum-back : (n : ℕ) → n < 8 → flagSum (summerIn n) (changeIn n) (unsynchronisedIn n) ≡ n
+pub flagSum-back : (n : ℕ) → n < 8 → flagSum (summerIn n) (changeIn n) (unsynchronisedIn n) ≡ n
 unfolding flagSum
 flagSum-back n h =
     eqb→eq _ _ (below-at 8 (λ k. eqb (flagSum (summerIn k) (changeIn k) (unsynchronisedIn k)) k) tt n h)
@@ -156,15 +156,15 @@ flags-small : (a b c : Bool) → flagSum a b c ≤ 7
 unfolding flagSum either-way
 flags-small a b c = leb-true _ _ (every-flags (λ a b c. leb (flagSum a b c) 7) refl a b c)
 
-summer-said : (a b c : Bool) → summerIn (flagSum a b c) ≡ a
+pub summer-said : (a b c : Bool) → summerIn (flagSum a b c) ≡ a
 unfolding flagSum either-way
 summer-said a b c = beq-true _ _ (every-flags (λ a b c. Bool·beq (summerIn (flagSum a b c)) a) refl a b c)
 
-change-said : (a b c : Bool) → changeIn (flagSum a b c) ≡ b
+pub change-said : (a b c : Bool) → changeIn (flagSum a b c) ≡ b
 unfolding flagSum either-way
 change-said a b c = beq-true _ _ (every-flags (λ a b c. Bool·beq (changeIn (flagSum a b c)) b) refl a b c)
 
-unsynchronised-said : (a b c : Bool) → unsynchronisedIn (flagSum a b c) ≡ c
+pub unsynchronised-said : (a b c : Bool) → unsynchronisedIn (flagSum a b c) ≡ c
 unfolding flagSum either-way
 unsynchronised-said a b c =
     beq-true _ _ (every-flags (λ a b c. Bool·beq (unsynchronisedIn (flagSum a b c)) c) refl a b c)

@@ -1,4 +1,5 @@
 -- Laws of the definitions, and the main results.
 pub mod ElvLaws
+pub mod SaysLaws
 pub mod AcceptLaws
 pub mod Theorems

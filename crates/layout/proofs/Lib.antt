@@ -1,6 +1,8 @@
 -- Laws of the definitions, and the main results.
 pub mod LayoutLaws
 pub mod PartLaws
+pub mod PictureLaws
+pub mod SaysLaws
 pub mod ByteLaws
 pub mod WordLaws
 pub mod SampleLaws
@@ -8,6 +10,8 @@ pub mod FlagLaws
 pub mod PairLaws
 pub mod TextLaws
 pub mod AcceptLaws
+pub mod ExactLaws
+pub mod LinesLaws
 pub mod WriteLaws
 pub mod DecideLaws
 pub mod Theorems

@@ -4,3 +4,6 @@ pub mod Layout
 pub mod Words
 pub mod Text
 pub mod Accepts
+pub mod Picture
+pub mod Says
+pub mod Lines

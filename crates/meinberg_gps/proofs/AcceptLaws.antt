@@ -56,7 +56,7 @@ same-tests a b c d = (
     go h false true e f = absurd (eqb-false a b e (h .1 (eqb-true c d f)))
 
 -- the letter for second 60 stands where it must exactly if the test finds no fault
-leap-exactly : (s : List ℕ) → (leapMismatch s ≡ false) ↔ ((getD s 38 0 ≡ 76) ↔ (number 2 20 s ≡ 60))
+pub leap-exactly : (s : List ℕ) → (leapMismatch s ≡ false) ↔ ((getD s 38 0 ≡ 76) ↔ (number 2 20 s ≡ 60))
 unfolding leapMismatch
 leap-exactly s = same-tests (getD s 38 0) 76 (number 2 20 s) 60
 

@@ -3,5 +3,6 @@ pub mod OffsetLaws
 pub mod ReadLaws
 pub mod BackLaws
 pub mod AcceptLaws
+pub mod SaysLaws
 pub mod GpsLaws
 pub mod Theorems

@@ -1,10 +1,13 @@
--- Which PZF strings are accepted, as rules with no order. Assumes nothing.
+-- Which PZF strings are accepted, and as which clock times. Assumes nothing.
 use Prim.Native.Nat.{ℕ}
 use mathlib.Core.List.{List}
-use Rattle.layout.specs.Accepts.{AcceptsClock}
-use Rattle.meinberg_pzf.specs.Pzf.{pzfLayout, pzfFields}
+use Rattle.clock_time.specs.declared.ClockTime.{ClockTime}
+use Rattle.calendar.specs.Rules.{ReadingRules}
+use Rattle.layout.specs.Picture.{AsDrawn}
+use Rattle.meinberg_pzf.specs.Says.{pzfPicture, SaysPzf}
 
--- "A string or a DCF77 minute is accepted exactly when the rules in document 01 hold" (demand 2): of a PZF string they
--- are those of every string with a clock time
-abbrev pub AcceptsPzf : List ℕ → Type 0
-AcceptsPzf s = AcceptsClock pzfLayout (pzfFields s) s
+-- "A string or a DCF77 minute is accepted exactly when the rules in document 01 hold, and then every field, offset and
+-- flag is the one those rules give." (demand 2): a PZF string is accepted as t if it is as drawn, says t, and
+-- t is a reading
+abbrev pub AcceptsPzf : List ℕ → ClockTime → Type 0
+AcceptsPzf s t = AsDrawn pzfPicture s × SaysPzf s t × ReadingRules t

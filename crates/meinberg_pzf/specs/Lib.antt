@@ -1,3 +1,4 @@
 -- The definitions that the contracts and the main results cite.
 pub mod Pzf
 pub mod Accepts
+pub mod Says

@@ -1,10 +1,13 @@
--- Which standard strings are accepted, as rules with no order. Assumes nothing.
+-- Which standard strings are accepted, and as which clock times. Assumes nothing.
 use Prim.Native.Nat.{ℕ}
 use mathlib.Core.List.{List}
-use Rattle.layout.specs.Accepts.{AcceptsClock}
-use Rattle.meinberg_standard.specs.Standard.{standardLayout, standardFields}
+use Rattle.clock_time.specs.declared.ClockTime.{ClockTime}
+use Rattle.calendar.specs.Rules.{ReadingRules}
+use Rattle.layout.specs.Picture.{AsDrawn}
+use Rattle.meinberg_standard.specs.Says.{standardPicture, SaysStandard}
 
--- "A string or a DCF77 minute is accepted exactly when the rules in document 01 hold" (demand 2): of a standard string
--- they are those of every string with a clock time
-abbrev pub AcceptsStandard : List ℕ → Type 0
-AcceptsStandard s = AcceptsClock standardLayout (standardFields s) s
+-- "A string or a DCF77 minute is accepted exactly when the rules in document 01 hold, and then every field, offset and
+-- flag is the one those rules give." (demand 2): a standard string is accepted as t if it is as drawn, says t, and
+-- t is a reading
+abbrev pub AcceptsStandard : List ℕ → ClockTime → Type 0
+AcceptsStandard s t = AsDrawn standardPicture s × SaysStandard s t × ReadingRules t

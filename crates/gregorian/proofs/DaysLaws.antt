@@ -1,0 +1,213 @@
+-- The days walked one by one are those that the sum of years, months and days counts.
+use Prim.Native.Nat.{ℕ, zero, suc, _+_, _-_, _/_, _≤_, _<_}
+use native.Mathlib.Nat.{add-zero, add-suc}
+use native.Mathlib.Omega.{arith}
+use native.Mathlib.Decide.{decLe}
+use mathlib.Core.Path.{_≡_, refl}
+use mathlib.Core.Logic.{_↔_, by-cases}
+use mathlib.Core.Bool.{Bool, true, false, not, _||_}
+use mathlib.Core.List.{[], _∷_}
+use lib.Dec.{leb, eqb, eqb→eq, leb→le}
+use lib.ListN.{getD, take}
+use borrow.Author.Tests.{le-leb, ne-eqb, not-false}
+use Rattle.clock_time.specs.Errors.{accepted, given, checked}
+use Rattle.clock_time.proofs.ErrorLaws.{accepted-passes}
+use Rattle.gregorian.specs.Date.{isLeapYear, monthLengths, daysInMonth, dateExists, sum, daysOfYears}
+use Rattle.gregorian.specs.Date.{knownDate, daysBeforeMonth, daysSinceEpoch, dayNumber, weekdayNumber, weekdayOf}
+use Rattle.gregorian.specs.Rules.{GregorianDate}
+use Rattle.gregorian.specs.Days.{DayAfter, epoch, next-day, next-month, next-year, OnWeekday}
+use Rattle.gregorian.proofs.DateLaws.{every-month}
+use Rattle.gregorian.proofs.RulesLaws.{date-exactly, most-days, known-exactly}
+
+-- ---- months
+-- a month begins where the one before it ends
+beginTest : Bool → ℕ → Bool
+beginTest leap month =
+    eqb month 0
+    || eqb (sum (take (suc month - 1) (monthLengths leap)))
+    (sum (take (month - 1) (monthLengths leap)) + getD (0 ∷ monthLengths leap) month 0)
+
+next-begins : (year month : ℕ) → 1 ≤ month → month ≤ 12
+    → daysBeforeMonth year (suc month) ≡ daysBeforeMonth year month + daysInMonth year month
+unfolding beginTest daysBeforeMonth daysInMonth monthLengths
+next-begins year month one h =
+    let test = every-month beginTest tt tt (isLeapYear year) month h in
+    eqb→eq _ _ (rw (ne-eqb month 0 (λ z. omega (arith, z))) at test)
+
+-- every month has a first day
+month-begins : (year month : ℕ) → 1 ≤ month → month ≤ 12 → 1 ≤ daysInMonth year month
+unfolding daysInMonth monthLengths
+month-begins year month one h =
+    let test = every-month (λ l m. eqb m 0 || leb 1 (getD (0 ∷ monthLengths l) m 0)) tt tt (isLeapYear year) month h in
+    leb→le 1 _ (rw (ne-eqb month 0 (λ z. omega (arith, z))) at test)
+
+-- a day of a month is a date if it is at most the month's last
+day-exists : (year month day : ℕ) → 1 ≤ day → day ≤ daysInMonth year month → GregorianDate year month day
+unfolding dateExists
+day-exists year month day one most = date-exactly year month day .0 (simp (le-leb _ _ one, le-leb _ _ most))
+
+december-days : (year : ℕ) → daysInMonth year 12 ≡ 31
+unfolding daysInMonth monthLengths
+december-days year = refl
+
+-- ---- years
+-- the days of one year more are those of the years before and its own
+one-more : (year count : ℕ) → daysOfYears year (suc count)
+    ≡ daysOfYears year count + sum (monthLengths (isLeapYear (year + count)))
+unfolding daysOfYears
+one-more year zero = rw (add-zero year) (omega arith)
+one-more year (suc count) =
+    let e : suc year + count ≡ year + suc count = omega arith in
+    let rest = rw e at (one-more (suc year) count) in
+    omega (arith, rest)
+
+year-days : (year : ℕ) → sum (monthLengths (isLeapYear year)) ≡ daysBeforeMonth year 12 + 31
+unfolding daysBeforeMonth monthLengths
+year-days year = go (isLeapYear year)
+  where
+    go : (leap : Bool) → sum (monthLengths leap) ≡ sum (take 11 (monthLengths leap)) + 31
+    go true = refl
+    go false = refl
+
+-- ---- a date that is walked to is counted
+-- the date is n days from 1 January 1970 by the sum of years, months and days
+abbrev pub Counted : ℕ → ℕ → ℕ → ℕ → Type 0
+Counted n year month day = GregorianDate year month day × (1970 ≤ year) × (n ≡ daysSinceEpoch year month day)
+
+counted-epoch : Counted 0 1970 1 1
+unfolding daysSinceEpoch daysOfYears daysBeforeMonth dateExists daysInMonth monthLengths isLeapYear
+counted-epoch = (date-exactly 1970 1 1 .0 refl, omega arith, refl)
+
+counted-day : {n year month day : ℕ} → Counted n year month day → GregorianDate year month (suc day)
+    → Counted (suc n) year month (suc day)
+unfolding daysSinceEpoch
+counted-day c next = (next, c .1, omega (arith, c .2, c .0 .first))
+
+-- a day with none after it in its month is the month's last
+last-day : (year month day : ℕ) → GregorianDate year month day → (GregorianDate year month (suc day) → ⊥)
+    → day ≡ daysInMonth year month
+last-day year month day d last = by-cases (decLe (suc day) (daysInMonth year month))
+    (λ h. absurd (last (day-exists year month (suc day) (omega arith) h))) λ k. omega (arith, most-days year month day d)
+
+counted-month : (n year month day : ℕ) → Counted n year month day → (GregorianDate year month (suc day) → ⊥)
+    → month < 12 → Counted (suc n) year (suc month) 1
+unfolding daysSinceEpoch
+counted-month n year month day c last more =
+    let d = c .0 in
+    let begins = next-begins year month (d .january) (d .december) in (
+      day-exists year (suc month) 1 (omega arith) (month-begins year (suc month) (omega arith) (omega arith)),
+      c .1,
+      omega (arith, c .2, d .first, begins, last-day year month day d last),
+    )
+
+counted-year : (n year : ℕ) → Counted n year 12 31 → Counted (suc n) (suc year) 1 1
+unfolding daysSinceEpoch daysBeforeMonth
+counted-year n year c =
+    let count : suc year - 1970 ≡ suc (year - 1970) = omega (arith, c .1) in
+    let same : 1970 + (year - 1970) ≡ year = omega (arith, c .1) in
+    let years = rw same at (one-more 1970 (year - 1970)) in (
+      day-exists (suc year) 1 1 (omega arith) (month-begins (suc year) 1 (omega arith) (omega arith)),
+      omega (arith, c .1),
+      rw count (omega (arith, c .2, years, year-days year)),
+    )
+
+pub counted : {n year month day : ℕ} → DayAfter n year month day → Counted n year month day
+counted epoch = counted-epoch
+counted (next-day before next) = counted-day (counted before) next
+counted (next-month {n = n} {year = y} {month = m} {day = d} before last more) =
+    counted-month n y m d (counted before) last more
+counted (next-year {n = n} {year = y} before) = counted-year n y (counted before)
+
+-- ---- and a date that is counted is walked to
+as-many : {n k year month day : ℕ} → n ≡ k → DayAfter n year month day → DayAfter k year month day
+as-many e walk = rw e at walk
+
+days-walked : {n year month : ℕ} (days : ℕ) → DayAfter n year month 1 → suc days ≤ daysInMonth year month
+    → DayAfter (n + days) year month (suc days)
+days-walked {n} zero first h = rw (add-zero n) first
+days-walked {n} {year} {month} (suc days) first h =
+    rw (add-suc n days)
+    (next-day (days-walked days first (omega arith)) (day-exists year month (suc (suc days)) (omega arith) h))
+
+months-walked : {n year : ℕ} (months : ℕ) → DayAfter n year 1 1 → months < 12
+    → DayAfter (n + daysBeforeMonth year (suc months)) year (suc months) 1
+unfolding daysBeforeMonth
+months-walked {n} zero first h = rw (add-zero n) first
+months-walked {n} {year} (suc months) first h =
+    let days = daysInMonth year (suc months) in
+    let some = month-begins year (suc months) (omega arith) (omega arith) in
+    let begins = next-begins year (suc months) (omega arith) (omega arith) in
+    let last = days-walked (days - 1) (months-walked months first (omega arith)) (omega arith) in
+    let none : GregorianDate year (suc months) (suc (suc (days - 1))) → ⊥ =
+    λ d. omega (arith, most-days year (suc months) (suc (suc (days - 1))) d) in
+    as-many (omega arith) (next-month last none h)
+
+years-walked : (count : ℕ) → DayAfter (daysOfYears 1970 count) (1970 + count) 1 1
+unfolding daysOfYears
+years-walked zero = epoch
+years-walked (suc count) =
+    let december = months-walked 11 (years-walked count) (omega arith) in
+    let last = days-walked 30 december (omega (arith, december-days (1970 + count))) in
+    rw (add-suc 1970 count)
+    (as-many (omega (arith, one-more 1970 count, year-days (1970 + count))) (next-year last))
+
+pub walked : (n year month day : ℕ) → Counted n year month day → DayAfter n year month day
+unfolding daysSinceEpoch
+walked n year month day c =
+    let d = c .0 in
+    let e : 1970 + (year - 1970) ≡ year = omega (arith, c .1) in
+    let january = rw e at (years-walked (year - 1970)) in
+    let first = months-walked (month - 1) january (omega (arith, d .january, d .december)) in
+    let this : suc (month - 1) ≡ month = omega (arith, d .january) in
+    let date = days-walked (day - 1) (rw this at first) (omega (arith, d .first, most-days year month day d)) in
+    let same : suc (day - 1) ≡ day = omega (arith, d .first) in
+    rw (c .2) (rw same at date)
+
+-- ---- the weekday
+pub weekday-counted : (year month day w : ℕ) → OnWeekday year month day w
+    ↔ (GregorianDate year month day × (1970 ≤ year) × (w ≡ weekdayNumber year month day))
+unfolding weekdayNumber
+weekday-counted year month day w = (
+  λ o. let c = counted (o .date) in (c .0, c .1, omega (arith, c .2, o .thursday, o .monday, o .sunday)),
+  λ h.
+      let days = daysSinceEpoch year month day in
+      record {
+        days = days;
+        date = walked days year month day (h .0, h .1, refl);
+        weeks = (days + 3) / 7;
+        thursday = omega (arith, h .2);
+        monday = omega (arith, h .2);
+        sunday = omega (arith, h .2);
+      },
+)
+
+-- ---- the answers
+-- a number of a date that is known
+module _ (year month day number : ℕ) where
+  answered : (n : ℕ) → (checked (given 5 (not (knownDate year month day)) ∷ []) number ≡ accepted n)
+      ↔ ((1970 ≤ year) × (year ≤ 2069) × GregorianDate year month day × (n ≡ number))
+  answered n = (
+    λ h.
+        let w = accepted-passes (given 5 (not (knownDate year month day)) ∷ []) number n h in
+        let k = known-exactly year month day .0 (not-false _ (w .0 .0)) in (k .0, k .1, k .2, w .1),
+    λ k. rw (known-exactly year month day .1 (k .0, k .1, k .2), k .3),
+  )
+
+pub day-answered : (year month day n : ℕ) → (dayNumber year month day ≡ accepted n)
+    ↔ (DayAfter n year month day × (year ≤ 2069))
+unfolding dayNumber
+day-answered year month day n =
+    let a = answered year month day (daysSinceEpoch year month day) n in (
+      λ h. let k = a .0 h in (walked n year month day (k .2, k .0, k .3), k .1),
+      λ w. let c = counted (w .0) in a .1 (c .1, w .1, c .0, c .2),
+    )
+
+pub weekday-answered : (year month day w : ℕ) → (weekdayOf year month day ≡ accepted w)
+    ↔ (OnWeekday year month day w × (year ≤ 2069))
+unfolding weekdayOf
+weekday-answered year month day w =
+    let a = answered year month day (weekdayNumber year month day) w in
+    let e = weekday-counted year month day w in (
+      λ h. let k = a .0 h in (e .1 (k .2, k .0, k .3), k .1),
+      λ o. let c = e .0 (o .0) in a .1 (c .1, o .1, c .0, c .2),
+    )

@@ -3,6 +3,7 @@
 use Prim.Native.Nat.{ℕ, _%_, _<_}
 use native.Mathlib.Omega.{arith}
 use mathlib.Core.Path.{_≡_, refl, _∙_}
+use mathlib.Core.Logic.{_↔_}
 use mathlib.Core.Bool.{Bool, true, false, cond, _&&_, _||_, or-true}
 use mathlib.Core.List.{List}
 use lib.Dec.{eqb}
@@ -114,6 +115,15 @@ module _ {A : Type 0} (f : Format A) (carries : A → Bool) (d : Decides f carri
   pub valid-answer : (s : List ℕ) (a : A) → readText f s ≡ accepted a → isValid (f .clock a) ≡ true
   valid-answer s a e = both (isValid (f .clock a)) (carries a) (passes s a e) .0
 
+  -- read exactly what is written: a string is read as a value exactly if the value is a valid reading that is carried,
+  -- and the string is its text
+  pub read-written : ((s : List ℕ) → PassesText f s → f .text (f .fields s) ≡ s) → (s : List ℕ) (a : A)
+      → (readText f s ≡ accepted a) ↔ (((isValid (f .clock a) && carries a) ≡ true) × (f .text a ≡ s))
+  read-written text-fields s a = (
+    λ h. let r = read-passes f s a h in (passes s a h, rw (r .1) (text-fields s (r .0))),
+    λ w. rw (w .1) at (reads a (w .0)),
+  )
+
   -- the writer's code: the two tests, and the bytes of the text
   pub writes : ((a : A) → f .same a a ≡ true) → ((a b : A) → f .same a b ≡ true → a ≡ b)
       → (a : A) (buffer : List ℕ) {t u : Bool} {bytes : List ℕ} {o : Outcome} → o ≡ writing (t && u) bytes buffer
@@ -163,6 +173,11 @@ module _
     pub clock-valid : (s : List ℕ) (t : ClockTime) → readText (clockFormat layout fault fields text) s ≡ accepted t
         → isValid t ≡ true
     clock-valid = valid-answer (clockFormat layout fault fields text) carries clock-decides
+
+    pub clock-written : let f = clockFormat layout fault fields text in
+        ((s : List ℕ) → PassesText f s → text (fields s) ≡ s) → (s : List ℕ) (t : ClockTime)
+        → (readText f s ≡ accepted t) ↔ (((isValid t && carries t) ≡ true) × (text t ≡ s))
+    clock-written = read-written (clockFormat layout fault fields text) carries clock-decides
 
     pub clock-writes : (t : ClockTime) (buffer : List ℕ) {u v : Bool} {bytes : List ℕ} {o : Outcome}
         → o ≡ writing (u && v) bytes buffer → u ≡ isValid t → v ≡ carries t → bytes ≡ text t

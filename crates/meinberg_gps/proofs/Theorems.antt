@@ -2,7 +2,7 @@
 use Prim.Native.Nat.{ℕ}
 use mathlib.Core.Path.{_≡_, refl}
 use mathlib.Core.Logic.{_↔_}
-use mathlib.Core.Bool.{true}
+use mathlib.Core.Bool.{true, _&&_}
 use mathlib.Core.List.{List}
 use lib.ListN.{length}
 use Rattle.clock_time.specs.Errors.{accepted}
@@ -10,10 +10,11 @@ use Rattle.clock_time.specs.Faithful.{Faithful, ByFields}
 use Rattle.calendar.specs.UnixTime.{isValid}
 use Rattle.calendar.specs.Rules.{ReadingRules}
 use Rattle.layout.specs.Picture.{AsDrawn}
-use Rattle.layout.proofs.DecideLaws.{valid-answer}
+use Rattle.layout.proofs.DecideLaws.{valid-answer, read-written}
 use Rattle.layout.proofs.ExactLaws.{exactly}
 use Rattle.layout.proofs.Theorems as text
-use Rattle.meinberg_gps.specs.Gps.{gpsFields, gps, readGps, writeGps}
+use Rattle.gps_position.specs.Position.{positionCarried}
+use Rattle.meinberg_gps.specs.Gps.{gpsFields, gpsText, gps, readGps, writeGps}
 use Rattle.meinberg_gps.specs.Accepts.{AcceptsGps}
 use Rattle.meinberg_gps.specs.Says.{gpsPicture, RulesGps, SaysGps}
 use Rattle.meinberg_gps.specs.declared.GpsTime.{GpsTime}
@@ -42,3 +43,10 @@ long = refl
 pub valid-read : (s : List ℕ) (g : GpsTime) → readGps s ≡ accepted g → isValid (g .time) ≡ true
 unfolding readGps gps
 valid-read = valid-answer gps gpsCarries decides
+
+-- read exactly what is written: as g, the text of g and no other string, if g is a valid reading at a position that it
+-- can say
+pub read-is-written : (s : List ℕ) (g : GpsTime) → (readGps s ≡ accepted g)
+    ↔ (((isValid (g .time) && positionCarried (g .position)) ≡ true) × (gpsText g ≡ s))
+unfolding readGps gps
+read-is-written = read-written gps gpsCarries decides gps-back

@@ -2,7 +2,7 @@
 use Prim.Native.Nat.{ℕ}
 use mathlib.Core.Path.{_≡_, refl}
 use mathlib.Core.Logic.{_↔_}
-use mathlib.Core.Bool.{true}
+use mathlib.Core.Bool.{true, _&&_}
 use mathlib.Core.List.{List}
 use lib.ListN.{length}
 use Rattle.clock_time.specs.Errors.{accepted, refused}
@@ -13,11 +13,11 @@ use Rattle.calendar.specs.UnixTime.{isValid}
 use Rattle.calendar.specs.Rules.{ReadingRules}
 use Rattle.layout.specs.Picture.{AsDrawn}
 use Rattle.layout.specs.Lines.{clockLines}
-use Rattle.layout.proofs.DecideLaws.{clock-valid}
+use Rattle.layout.proofs.DecideLaws.{clock-valid, clock-written}
 use Rattle.layout.proofs.ExactLaws.{says-one-time}
 use Rattle.layout.proofs.LinesLaws.{refused-clock}
 use Rattle.layout.proofs.Theorems as text
-use Rattle.meinberg_pzf.specs.Pzf.{pzfText, pzf, readPzf, writePzf}
+use Rattle.meinberg_pzf.specs.Pzf.{pzfText, pzfCarries, pzf, readPzf, writePzf}
 use Rattle.meinberg_pzf.specs.Accepts.{AcceptsPzf}
 use Rattle.meinberg_pzf.specs.Says.{pzfPicture, SaysPzf}
 use Rattle.meinberg_pzf.proofs.PzfLaws.{pzf-back, decides}
@@ -53,3 +53,9 @@ says-one = says-one-time in-words
 pub valid-read : (s : List ℕ) (t : ClockTime) → readPzf s ≡ accepted t → isValid t ≡ true
 unfolding readPzf pzf
 valid-read = clock-valid decides
+
+-- read exactly what is written: as t, the text of t and no other string, if t is a valid reading that it can say
+pub read-is-written : (s : List ℕ) (t : ClockTime)
+    → (readPzf s ≡ accepted t) ↔ (((isValid t && pzfCarries t) ≡ true) × (pzfText t ≡ s))
+unfolding readPzf pzf
+read-is-written = clock-written decides (λ s p. pzf-back s (p .clock .fits))

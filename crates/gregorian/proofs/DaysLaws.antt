@@ -3,17 +3,18 @@ use Prim.Native.Nat.{ℕ, zero, suc, _+_, _-_, _/_, _≤_, _<_}
 use native.Mathlib.Nat.{add-zero, add-suc}
 use native.Mathlib.Omega.{arith}
 use native.Mathlib.Decide.{decLe}
-use mathlib.Core.Path.{_≡_, refl}
+use mathlib.Core.Path.{_≡_, refl, sym, _∙_}
 use mathlib.Core.Logic.{_↔_, by-cases}
-use mathlib.Core.Bool.{Bool, true, false, not, _||_}
+use mathlib.Core.Bool.{Bool, true, false, cond, not, _||_, true≢false}
 use mathlib.Core.List.{[], _∷_}
 use lib.Dec.{leb, eqb, eqb→eq, leb→le}
 use lib.ListN.{getD, take}
 use borrow.Author.Tests.{le-leb, ne-eqb, not-false}
 use Rattle.clock_time.specs.Errors.{accepted, given, checked}
 use Rattle.clock_time.proofs.ErrorLaws.{accepted-passes}
-use Rattle.gregorian.specs.Date.{isLeapYear, monthLengths, daysInMonth, dateExists, sum, daysOfYears}
-use Rattle.gregorian.specs.Date.{knownDate, daysBeforeMonth, daysSinceEpoch, dayNumber, weekdayNumber, weekdayOf}
+use Rattle.gregorian.specs.Date.{isLeapYear, monthLengths, daysInMonth, dateExists, knownDate, sum, daysOfYears}
+use Rattle.gregorian.specs.Date.{daysBeforeMonth, daysSinceEpoch, dayNumber, weekdayNumber, weekdayOf}
+use Rattle.gregorian.specs.Date.{weekdayOrZero}
 use Rattle.gregorian.specs.Rules.{GregorianDate}
 use Rattle.gregorian.specs.Days.{DayAfter, epoch, next-day, next-month, next-year, OnWeekday}
 use Rattle.gregorian.proofs.DateLaws.{every-month}
@@ -211,3 +212,23 @@ weekday-answered year month day w =
       λ h. let k = a .0 h in (e .1 (k .2, k .0, k .3), k .1),
       λ o. let c = e .0 (o .0) in a .1 (c .1, o .1, c .0, c .2),
     )
+
+-- the weekday of a date of the years 1970 to 2069, and 0 if there is no such date
+module _ (year month day w : ℕ) (first : 1970 ≤ year) (last : year ≤ 2069) where
+  pub weekday-or-zero : (w ≡ weekdayOrZero year month day)
+      ↔ ((GregorianDate year month day → OnWeekday year month day w)
+      × ((GregorianDate year month day → ⊥) → w ≡ 0))
+  unfolding weekdayOrZero
+  weekday-or-zero = go (knownDate year month day) refl
+    where
+      go : (t : Bool) → knownDate year month day ≡ t → (w ≡ cond t (weekdayNumber year month day) 0)
+          ↔ ((GregorianDate year month day → OnWeekday year month day w)
+          × ((GregorianDate year month day → ⊥) → w ≡ 0))
+      go true e =
+          let date = known-exactly year month day .0 e .2 in
+          let c = weekday-counted year month day w in
+          (λ h. (λ d. c .1 (d, first, h), λ none. absurd (none date)), λ r. c .0 (r .0 date) .2)
+      go false e =
+          let none : GregorianDate year month day → ⊥ =
+          λ d. true≢false (sym (known-exactly year month day .1 (first, last, d)) ∙ e) in
+          (λ h. (λ d. absurd (none d), λ n. h), λ r. r .1 none)

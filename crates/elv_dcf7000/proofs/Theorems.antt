@@ -14,7 +14,6 @@ use Rattle.calendar.specs.Rules.{ReadingRules}
 use Rattle.layout.specs.Picture.{AsDrawn}
 use Rattle.layout.specs.Says.{twoDigitsAt}
 use Rattle.layout.proofs.DecideLaws.{clock-valid}
-use Rattle.layout.proofs.ExactLaws.{exactly}
 use Rattle.layout.proofs.Theorems as text
 use Rattle.elv_dcf7000.specs.Elv.{sentFields, withWeekday, elvFields, elv, readElv, writeElv}
 use Rattle.elv_dcf7000.specs.Accepts.{AcceptsElv}
@@ -26,13 +25,15 @@ use Rattle.elv_dcf7000.proofs.ElvLaws.{read-weekday, elv-back, decides}
 -- demand 2: acceptance, the fields read, and what is written
 pub faithful : Faithful (ByFields AcceptsElv elvFields) readElv writeElv
 unfolding readElv writeElv elv
-faithful = text.faithful elv AcceptsElv elv-exactly elv-back sameTime-refl sameTime-true
+faithful =
+    text.faithful elv (ByFields AcceptsElv elvFields) (text.accepted-exactly elv AcceptsElv elv-exactly)
+    (λ s r. elv-back s (elv-exactly s .1 r)) sameTime-refl sameTime-true
 
 -- its first sentence in words, with "FF is 00..07" (01, Meinberg and ELV strings)
 pub read-elv-exactly : (s : List ℕ) (t : ClockTime) → (readElv s ≡ accepted t)
     ↔ (AsDrawn elvPicture s × SaysElv s t × (twoDigitsAt s 18 ≤ 7) × ReadingRules t)
 unfolding readElv elv
-read-elv-exactly = exactly in-words
+read-elv-exactly = text.exactly in-words
 
 -- the weekday that is read is the one that the calendar has for the date
 pub weekday-read : (s : List ℕ) (t : ClockTime) → readElv s ≡ accepted t

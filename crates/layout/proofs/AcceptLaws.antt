@@ -21,7 +21,7 @@ pub record PassesText {A : Type 0} (f : Format A) (s : List ℕ) : Type 0 where
   pub position : f .positionFault s ≡ false
   pub agrees : f .mismatch s ≡ false
 
-neither : (a b : Bool) → (a || b) ≡ false → (a ≡ false) × (b ≡ false)
+pub neither : (a b : Bool) → (a || b) ≡ false → (a ≡ false) × (b ≡ false)
 neither true b h = absurd (true≢false h)
 neither false b h = (refl, h)
 

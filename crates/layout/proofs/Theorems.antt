@@ -1,21 +1,22 @@
--- The main results, for any format: which strings are accepted, and what is written. Assumes nothing.
+-- The main results, for any format: which strings are accepted, which are refused, and what is written.
 use Prim.Native.Nat.{ℕ}
-use mathlib.Core.Path.{_≡_, refl, _∙_}
+use mathlib.Core.Path.{_≡_, _∙_}
 use mathlib.Core.Logic.{_↔_}
 use mathlib.Core.Bool.{true, false}
 use mathlib.Core.List.{List}
-use Rattle.clock_time.specs.Errors.{accepted}
-use Rattle.clock_time.specs.Faithful.{Faithful, ByFields}
+use Rattle.clock_time.specs.Errors.{accepted, refused}
+use Rattle.clock_time.specs.Order.{Gives}
+use Rattle.clock_time.specs.Faithful.{Faithful}
 use Rattle.clock_time.specs.declared.ClockTime.{ClockTime}
-use Rattle.clock_time.specs.Same.{sameTime}
 use Rattle.clock_time.proofs.BackLaws as writing
-use Rattle.clock_time.proofs.SameLaws.{sameTime-refl, sameTime-true}
+use Rattle.clock_time.proofs.OrderLaws as orders
 use Rattle.calendar.specs.Rules.{ReadingRules}
-use Rattle.layout.specs.Layout.{FitsLayout}
-use Rattle.layout.specs.Text.{Format, clockFormat, readText, writeText}
+use Rattle.layout.specs.Text.{Format, clockFormat, textChecks, readText, writeText}
 use Rattle.layout.specs.Picture.{Place, AsDrawn}
+use Rattle.layout.specs.Lines.{OwnFaults, noFaults, textLines}
 use Rattle.layout.proofs.AcceptLaws.{PassesText, read-passes, passes-read}
-use Rattle.layout.proofs.ExactLaws.{ClockInWords, exactly-clock}
+use Rattle.layout.proofs.ExactLaws.{InWords, NoRules, fits-drawn, legible, read-says, says-read}
+use Rattle.layout.proofs.LinesLaws.{agrees}
 
 module _ {A : Type 0} (f : Format A) (Rules : List ℕ → Type 0) (rules : (s : List ℕ) → Rules s ↔ PassesText f s) where
   -- a string is read as a value exactly if the format's rules hold of it and the value is what its fields say
@@ -25,31 +26,47 @@ module _ {A : Type 0} (f : Format A) (Rules : List ℕ → Type 0) (rules : (s :
     λ r. passes-read f s (rules s .0 (r .0)) ∙ rw (r .1),
   )
 
-  -- demand 2, of a format in which an accepted string is the text of its fields, and whose test of sameness is right
-  pub faithful : ((s : List ℕ) → Rules s → f .text (f .fields s) ≡ s)
-      → ((a : A) → f .same a a ≡ true) → ((a b : A) → f .same a b ≡ true → a ≡ b)
-      → Faithful (ByFields Rules (f .fields)) (readText f) (writeText f)
-  unfolding writeText
-  faithful back same-refl same-true =
-      writing.faithful (readText f) (f .text) (f .same) text-read same-refl same-true (ByFields Rules (f .fields))
-      accepted-exactly
-    where
-      text-read : (s : List ℕ) (a : A) → readText f s ≡ accepted a → f .text a ≡ s
-      text-read s a h = let r = accepted-exactly s a .0 h in rw (r .1) (back s (r .0))
+module _
+    {A : Type 0} {f : Format A} {p : List Place} {own : OwnFaults} {Rules : List ℕ → Type 0}
+    {Says : List ℕ → A → Type 0} (w : InWords f p own Rules Says) (s : List ℕ)
+  where
+    -- a string is read as a value exactly if it is as drawn, says the value, keeps the format's own rules, and the
+    -- value is a reading
+    pub exactly : (a : A)
+        → (readText f s ≡ accepted a) ↔ (AsDrawn p s × Says s a × Rules s × ReadingRules (f .clock a))
+    exactly a = (read-says w s a, λ r. says-read w s a (r .0) (r .1) (r .2) (r .3))
 
--- demand 2 in words, of a format of clock times alone whose flags are all letters
-module _ {l : List ℕ} {fields : List ℕ → ClockTime} {p : List Place} {Says : List ℕ → ClockTime → Type 0}
-    (w : ClockInWords l fields p Says) (text : ClockTime → List ℕ)
-    (back : (s : List ℕ) → FitsLayout l s → text (fields s) ≡ s) where
-  pub faithful-clock : let f = clockFormat l (λ s. false) fields text in
-      Faithful (λ s t. AsDrawn p s × Says s t × ReadingRules t) (readText f) (writeText f)
-  unfolding writeText
-  faithful-clock =
-      writing.faithful (readText f) text sameTime text-read sameTime-refl sameTime-true
-      (λ s t. AsDrawn p s × Says s t × ReadingRules t) (exactly-clock w text)
-    where
-      f : Format ClockTime
-      f = clockFormat l (λ s. false) fields text
+    -- "Each number is given when its line holds and no earlier one does, and never otherwise." (01, Refusal numbers)
+    pub refused-exactly : (n : ℕ) → (readText f s ≡ refused n) ↔ Gives (textLines p own Says (f .clock) s) n
+    unfolding readText
+    refused-exactly =
+        orders.refused-exactly (textChecks f s) (textLines p own Says (f .clock) s) (agrees w s) (f .fields s)
 
-      text-read : (s : List ℕ) (t : ClockTime) → readText f s ≡ accepted t → text t ≡ s
-      text-read s t h = let r = read-passes f s t h in rw (r .1) (back s (r .0 .clock .fits))
+    -- a string that is as drawn and keeps the format's own rules says one value and no other
+    pub says-one : AsDrawn p s → Rules s → (a : A) × (Says s a × ((b : A) → Says s b → b ≡ a))
+    says-one d rules =
+        let l = legible (fits-drawn (w .picture) s .1 d) (w .rules s .0 rules) in
+        (f .fields s, (w .fields-say s l, λ b h. w .said-fields s b l h))
+
+-- the first of these, of a format of clock times alone whose flags are all letters
+pub exactly-letters : {l : List ℕ} {fields : List ℕ → ClockTime} {text : ClockTime → List ℕ} {p : List Place}
+    {Says : List ℕ → ClockTime → Type 0} → let f = clockFormat l (λ s. false) fields text in
+    InWords f p noFaults NoRules Says → (s : List ℕ) (t : ClockTime)
+    → (readText f s ≡ accepted t) ↔ (AsDrawn p s × Says s t × ReadingRules t)
+exactly-letters w s t = (
+  λ h. let r = exactly w s t .0 h in (r .0, r .1, r .3),
+  λ r. exactly w s t .1 (r .0, r .1, tt, r .2),
+)
+
+-- demand 2, of a format in which an accepted string is the text of its fields, and whose test of sameness is right
+pub faithful : {A : Type 0} (f : Format A) (Accepts : List ℕ → A → Type 0)
+    → ((s : List ℕ) (a : A) → (readText f s ≡ accepted a) ↔ Accepts s a)
+    → ((s : List ℕ) → PassesText f s → f .text (f .fields s) ≡ s)
+    → ((a : A) → f .same a a ≡ true) → ((a b : A) → f .same a b ≡ true → a ≡ b)
+    → Faithful Accepts (readText f) (writeText f)
+unfolding writeText
+faithful {A} f Accepts exact back same-refl same-true =
+    writing.faithful (readText f) (f .text) (f .same) text-read same-refl same-true Accepts exact
+  where
+    text-read : (s : List ℕ) (a : A) → readText f s ≡ accepted a → f .text a ≡ s
+    text-read s a h = let r = read-passes f s a h in rw (r .1) (back s (r .0))

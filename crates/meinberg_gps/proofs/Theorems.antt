@@ -5,18 +5,19 @@ use mathlib.Core.Logic.{_↔_}
 use mathlib.Core.Bool.{true, _&&_}
 use mathlib.Core.List.{List}
 use lib.ListN.{length}
-use Rattle.clock_time.specs.Errors.{accepted}
+use Rattle.clock_time.specs.Errors.{accepted, refused}
+use Rattle.clock_time.specs.Order.{Gives}
 use Rattle.clock_time.specs.Faithful.{Faithful, ByFields}
 use Rattle.calendar.specs.UnixTime.{isValid}
 use Rattle.calendar.specs.Rules.{ReadingRules}
 use Rattle.layout.specs.Picture.{AsDrawn}
 use Rattle.layout.proofs.DecideLaws.{valid-answer, read-written}
-use Rattle.layout.proofs.ExactLaws.{exactly}
 use Rattle.layout.proofs.Theorems as text
 use Rattle.gps_position.specs.Position.{positionCarried}
 use Rattle.meinberg_gps.specs.Gps.{gpsFields, gpsText, gps, readGps, writeGps}
 use Rattle.meinberg_gps.specs.Accepts.{AcceptsGps}
 use Rattle.meinberg_gps.specs.Says.{gpsPicture, RulesGps, SaysGps}
+use Rattle.meinberg_gps.specs.Lines.{gpsLines}
 use Rattle.meinberg_gps.specs.declared.GpsTime.{GpsTime}
 use Rattle.meinberg_gps.proofs.AcceptLaws.{gps-exactly}
 use Rattle.meinberg_gps.proofs.BackLaws.{gps-back, sameGps-refl, sameGps-true}
@@ -27,13 +28,20 @@ use Rattle.meinberg_gps.proofs.GpsLaws.{gpsCarries, decides}
 pub faithful : Faithful (ByFields AcceptsGps gpsFields) readGps writeGps
 unfolding readGps writeGps gps
 faithful =
-    text.faithful gps AcceptsGps gps-exactly (λ s r. gps-back s (gps-exactly s .0 r)) sameGps-refl sameGps-true
+    text.faithful gps (ByFields AcceptsGps gpsFields) (text.accepted-exactly gps AcceptsGps gps-exactly) gps-back
+    sameGps-refl sameGps-true
 
 -- its first sentence in words
 pub read-gps-exactly : (s : List ℕ) (g : GpsTime)
-    → (readGps s ≡ accepted g) ↔ (AsDrawn gpsPicture s × SaysGps s g × RulesGps s g × ReadingRules (g .time))
+    → (readGps s ≡ accepted g) ↔ (AsDrawn gpsPicture s × SaysGps s g × RulesGps s × ReadingRules (g .time))
 unfolding readGps gps
-read-gps-exactly = exactly in-words
+read-gps-exactly = text.exactly in-words
+
+-- and refused with a number exactly if its line of the table in words holds and no earlier one does: "Each number is
+-- given when its line holds and no earlier one does, and never otherwise." (01, Refusal numbers)
+pub refused-gps-exactly : (s : List ℕ) (n : ℕ) → (readGps s ≡ refused n) ↔ Gives (gpsLines s) n
+unfolding readGps gps
+refused-gps-exactly = text.refused-exactly in-words
 
 -- "GPS, 66 bytes." (01, Meinberg and ELV strings)
 pub long : length gpsPicture ≡ 66

@@ -2,3 +2,4 @@
 pub mod Gps
 pub mod Accepts
 pub mod Says
+pub mod Lines

@@ -1,4 +1,4 @@
--- The main results of the PZF string. Assumes nothing.
+-- The main results of the PZF string.
 use Prim.Native.Nat.{ℕ}
 use mathlib.Core.Path.{_≡_, refl}
 use mathlib.Core.Logic.{_↔_}
@@ -9,24 +9,25 @@ use Rattle.clock_time.specs.Errors.{accepted, refused}
 use Rattle.clock_time.specs.Order.{Gives}
 use Rattle.clock_time.specs.Faithful.{Faithful}
 use Rattle.clock_time.specs.declared.ClockTime.{ClockTime}
+use Rattle.clock_time.proofs.SameLaws.{sameTime-refl, sameTime-true}
 use Rattle.calendar.specs.UnixTime.{isValid}
 use Rattle.calendar.specs.Rules.{ReadingRules}
 use Rattle.layout.specs.Picture.{AsDrawn}
-use Rattle.layout.specs.Lines.{clockLines}
 use Rattle.layout.proofs.DecideLaws.{clock-valid, clock-written}
-use Rattle.layout.proofs.ExactLaws.{says-one-time}
-use Rattle.layout.proofs.LinesLaws.{refused-clock}
 use Rattle.layout.proofs.Theorems as text
 use Rattle.meinberg_pzf.specs.Pzf.{pzfText, pzfCarries, pzf, readPzf, writePzf}
 use Rattle.meinberg_pzf.specs.Accepts.{AcceptsPzf}
 use Rattle.meinberg_pzf.specs.Says.{pzfPicture, SaysPzf}
+use Rattle.meinberg_pzf.specs.Lines.{pzfLines}
 use Rattle.meinberg_pzf.proofs.PzfLaws.{pzf-back, decides}
 use Rattle.meinberg_pzf.proofs.SaysLaws.{in-words}
 
 -- demand 2: acceptance, the fields read, and what is written
 pub faithful : Faithful AcceptsPzf readPzf writePzf
 unfolding readPzf writePzf pzf
-faithful = text.faithful-clock in-words pzfText pzf-back
+faithful =
+    text.faithful pzf AcceptsPzf (text.exactly-letters in-words) (λ s r. pzf-back s (r .clock .fits))
+    sameTime-refl sameTime-true
 
 -- its first sentence by itself
 pub read-pzf-exactly : (s : List ℕ) (t : ClockTime)
@@ -40,14 +41,14 @@ long = refl
 -- and refused with a number exactly if its line of the table in words holds and no earlier one does: "Each number is
 -- given when its line holds and no earlier one does, and never otherwise." (01, Refusal numbers)
 pub refused-pzf-exactly : (s : List ℕ) (n : ℕ)
-    → (readPzf s ≡ refused n) ↔ Gives (clockLines pzfPicture SaysPzf s) n
+    → (readPzf s ≡ refused n) ↔ Gives (pzfLines s) n
 unfolding readPzf pzf
-refused-pzf-exactly = refused-clock in-words pzfText
+refused-pzf-exactly = text.refused-exactly in-words
 
 -- a string that is as drawn says one clock time and no other
 pub says-one : (s : List ℕ) → AsDrawn pzfPicture s
     → (t : ClockTime) × (SaysPzf s t × ((u : ClockTime) → SaysPzf s u → u ≡ t))
-says-one = says-one-time in-words
+says-one s d = text.says-one in-words s d tt
 
 -- what is read is a valid reading
 pub valid-read : (s : List ℕ) (t : ClockTime) → readPzf s ≡ accepted t → isValid t ≡ true

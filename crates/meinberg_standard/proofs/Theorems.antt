@@ -1,4 +1,4 @@
--- The main results of the standard string. Assumes nothing.
+-- The main results of the standard string.
 use Prim.Native.Nat.{ℕ}
 use mathlib.Core.Path.{_≡_, refl}
 use mathlib.Core.Logic.{_↔_}
@@ -9,24 +9,25 @@ use Rattle.clock_time.specs.Errors.{accepted, refused}
 use Rattle.clock_time.specs.Order.{Gives}
 use Rattle.clock_time.specs.Faithful.{Faithful}
 use Rattle.clock_time.specs.declared.ClockTime.{ClockTime}
+use Rattle.clock_time.proofs.SameLaws.{sameTime-refl, sameTime-true}
 use Rattle.calendar.specs.UnixTime.{isValid}
 use Rattle.calendar.specs.Rules.{ReadingRules}
 use Rattle.layout.specs.Picture.{AsDrawn}
-use Rattle.layout.specs.Lines.{clockLines}
 use Rattle.layout.proofs.DecideLaws.{clock-valid, clock-written}
-use Rattle.layout.proofs.ExactLaws.{says-one-time}
-use Rattle.layout.proofs.LinesLaws.{refused-clock}
 use Rattle.layout.proofs.Theorems as text
 use Rattle.meinberg_standard.specs.Standard.{standardText, standardCarries, standard, readStandard, writeStandard}
 use Rattle.meinberg_standard.specs.Accepts.{AcceptsStandard}
 use Rattle.meinberg_standard.specs.Says.{standardPicture, SaysStandard}
+use Rattle.meinberg_standard.specs.Lines.{standardLines}
 use Rattle.meinberg_standard.proofs.StandardLaws.{standard-back, decides}
 use Rattle.meinberg_standard.proofs.SaysLaws.{in-words}
 
 -- demand 2: acceptance, the fields read, and what is written
 pub faithful : Faithful AcceptsStandard readStandard writeStandard
 unfolding readStandard writeStandard standard
-faithful = text.faithful-clock in-words standardText standard-back
+faithful =
+    text.faithful standard AcceptsStandard (text.exactly-letters in-words) (λ s r. standard-back s (r .clock .fits))
+    sameTime-refl sameTime-true
 
 -- its first sentence by itself
 pub read-standard-exactly : (s : List ℕ) (t : ClockTime)
@@ -40,14 +41,14 @@ long = refl
 -- and refused with a number exactly if its line of the table in words holds and no earlier one does: "Each number is
 -- given when its line holds and no earlier one does, and never otherwise." (01, Refusal numbers)
 pub refused-standard-exactly : (s : List ℕ) (n : ℕ)
-    → (readStandard s ≡ refused n) ↔ Gives (clockLines standardPicture SaysStandard s) n
+    → (readStandard s ≡ refused n) ↔ Gives (standardLines s) n
 unfolding readStandard standard
-refused-standard-exactly = refused-clock in-words standardText
+refused-standard-exactly = text.refused-exactly in-words
 
 -- a string that is as drawn says one clock time and no other
 pub says-one : (s : List ℕ) → AsDrawn standardPicture s
     → (t : ClockTime) × (SaysStandard s t × ((u : ClockTime) → SaysStandard s u → u ≡ t))
-says-one = says-one-time in-words
+says-one s d = text.says-one in-words s d tt
 
 -- what is read is a valid reading
 pub valid-read : (s : List ℕ) (t : ClockTime) → readStandard s ≡ accepted t → isValid t ≡ true

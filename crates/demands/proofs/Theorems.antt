@@ -32,7 +32,7 @@ use Rattle.meinberg_gps.specs.Gps.{gps, gpsFields, readGps, writeGps}
 use Rattle.meinberg_gps.specs.declared.GpsTime.{GpsTime}
 use Rattle.meinberg_gps.proofs.Theorems as gpss
 use Rattle.elv_dcf7000.specs.Accepts.{AcceptsElv}
-use Rattle.elv_dcf7000.specs.Elv.{elv, elvFields, readElv, writeElv}
+use Rattle.elv_dcf7000.specs.Elv.{elv, readElv, writeElv}
 use Rattle.elv_dcf7000.proofs.Theorems as elvs
 use Rattle.time_string.specs.Kind.{Reading, readingTime, kindOf, readAs}
 use Rattle.time_string.specs.declared.Kind.{Kind}
@@ -314,7 +314,7 @@ pzf-faithful = pzfs.faithful
 pub gps-faithful : Faithful (ByFields AcceptsGps gpsFields) readGps writeGps
 gps-faithful = gpss.faithful
 
-pub elv-faithful : Faithful (ByFields AcceptsElv elvFields) readElv writeElv
+pub elv-faithful : Faithful AcceptsElv readElv writeElv
 elv-faithful = elvs.faithful
 
 pub minute-faithful : Faithful (ByFields AcceptsMinute minuteFields) readMinute writeMinute

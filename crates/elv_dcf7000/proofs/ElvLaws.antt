@@ -15,7 +15,7 @@ use Rattle.clock_time.specs.Same.{eqℤ, sameFields, sameTime}
 use Rattle.clock_time.specs.declared.ClockTime.{ClockTime}
 use Rattle.clock_time.proofs.SameLaws.{eqℤ-refl, eqb-refl, beq-refl, beq-true, sameTime-true}
 use Rattle.clock_time.proofs.Tests.{both, below-at}
-use Rattle.gregorian.specs.Date.{dateExists, fullYear, knownDate, weekdayOf, weekdayNumber, weekdayOrZero}
+use Rattle.gregorian.specs.Date.{dateExists, fullYear, knownDate, weekdayNumber, weekdayOrZero}
 use Rattle.calendar.specs.TimeOfDay.{timeExists}
 use Rattle.calendar.specs.UnixTime.{isValid}
 use Rattle.calendar.proofs.ValidLaws.{zone-in-range}
@@ -27,20 +27,14 @@ use Rattle.layout.specs.Layout.{allowed, fitsFrom, FitsLayout, number}
 use Rattle.layout.specs.Text.{clockChecks}
 use Rattle.layout.proofs.LayoutLaws.{tested-fits, digit-place}
 use Rattle.layout.proofs.TextLaws.{read-fitting}
+use Rattle.layout.proofs.AcceptLaws.{PassesText}
 use Rattle.layout.proofs.WriteLaws.{restore-fits, digits-number, digits-year}
 use Rattle.layout.proofs.DecideLaws.{numbers-written, DecidesClock}
 use Rattle.elv_dcf7000.specs.Elv.{elvLayout, elvFlags, elvFlagFault, summerIn, changeIn, unsynchronisedIn}
 use Rattle.elv_dcf7000.specs.Elv.{elvOffset, sentFields, withWeekday, elvFields, flagSum, elvText, elvCarries}
 use Rattle.elv_dcf7000.specs.Elv.{elv, readElv}
-use Rattle.elv_dcf7000.specs.Accepts.{AcceptsElv}
 
 -- ---- the weekday
--- the weekday of what is read is the one that the calendar has for its date
-pub read-weekday : (s : List ℕ) → AcceptsElv s
-    → weekdayOf (fullYear (number 2 0 s)) (number 2 3 s) (number 2 6 s) ≡ accepted (elvFields s .weekday)
-unfolding weekdayOf weekdayOrZero elvFields sentFields withWeekday
-read-weekday s r = simp (known-exists _ _ _ ∙ r .date)
-
 pub weekday-range : (y m d : ℕ) → knownDate y m d ≡ true
     → (leb 1 (weekdayOrZero y m d) && leb (weekdayOrZero y m d) 7) ≡ true
 unfolding weekdayOrZero weekdayNumber
@@ -139,11 +133,11 @@ flagSum-back n h =
     eqb→eq _ _ (below-at 8 (λ k. eqb (flagSum (summerIn k) (changeIn k) (unsynchronisedIn k)) k) tt n h)
 
 -- ---- the text of the fields
-pub elv-back : (s : List ℕ) → AcceptsElv s → elvText (elvFields s) ≡ s
-unfolding elvText elvFields withWeekday sentFields elvLayout ascii
+pub elv-back : (s : List ℕ) → PassesText elv s → elvText (elvFields s) ≡ s
+unfolding elv elvFlagFault elvText elvFields withWeekday sentFields elvLayout ascii
 elv-back s r =
-    let h = r .fits in
-    let few : elvFlags s < 8 = omega (arith, r .flags) in
+    let h = r .clock .fits in
+    let few : elvFlags s < 8 = omega (arith, ltb-false 7 (elvFlags s) (r .flags)) in
     simp (digits-number h 2, digits-year h, flagSum-back (elvFlags s) few) (restore-fits h)
 
 -- ---- deciding from the clock time

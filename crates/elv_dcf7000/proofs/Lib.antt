@@ -1,5 +1,4 @@
 -- Laws of the definitions, and the main results.
 pub mod ElvLaws
 pub mod SaysLaws
-pub mod AcceptLaws
 pub mod Theorems

@@ -1,4 +1,5 @@
 -- The definitions that the contracts and the main results cite.
 pub mod Elv
-pub mod Accepts
 pub mod Says
+pub mod Accepts
+pub mod Lines

@@ -87,8 +87,10 @@ counted-day c next = (next, c .1, omega (arith, c .2, c .0 .first))
 -- a day with none after it in its month is the month's last
 last-day : (year month day : ℕ) → GregorianDate year month day → (GregorianDate year month (suc day) → ⊥)
     → day ≡ daysInMonth year month
-last-day year month day d last = by-cases (decLe (suc day) (daysInMonth year month))
-    (λ h. absurd (last (day-exists year month (suc day) (omega arith) h))) λ k. omega (arith, most-days year month day d)
+last-day year month day d last =
+    by-cases (decLe (suc day) (daysInMonth year month))
+    (λ h. absurd (last (day-exists year month (suc day) (omega arith) h)))
+    λ k. omega (arith, most-days year month day d)
 
 counted-month : (n year month day : ℕ) → Counted n year month day → (GregorianDate year month (suc day) → ⊥)
     → month < 12 → Counted (suc n) year (suc month) 1

@@ -8,8 +8,8 @@ use Rattle.gregorian.specs.Rules.{GregorianDate}
 use Rattle.gregorian.specs.Days.{DayAfter, OnWeekday}
 use Rattle.gregorian.proofs.DaysLaws.{counted, walked, weekday-counted, day-answered, weekday-answered}
 
--- "days since 1 January 1970" (01, The reading): every date from 1970 on is walked to, and after as many days as the sum
--- of its years, months and days has
+-- "days since 1 January 1970" (01, The reading): every date from 1970 on is walked to, and after as many days as the
+-- sum of its years, months and days has
 pub day-after-exactly : (n year month day : ℕ) → DayAfter n year month day
     ↔ (GregorianDate year month day × (1970 ≤ year) × (n ≡ daysSinceEpoch year month day))
 day-after-exactly n year month day = (counted, walked n year month day)

@@ -6,12 +6,17 @@ use mathlib.Core.Path.{_≡_, refl, ap, _∙_}
 use mathlib.Core.Logic.{⊎-elim}
 use mathlib.Core.Bool.{cond, not}
 use mathlib.Core.List.{List, [], _∷_, _++_}
-use lib.Dec.{eqb}
-use lib.ListN.{length, getD}
+use lib.Dec.{eqb, lit≤}
+use lib.ListN.{length, getD, take, drop}
 use borrow.Author.Tests.{eq-eqb, ne-eqb}
-use Rattle.dcf77.specs.Marks.{long, binary, twoDigits, longs, bits}
-use Rattle.dcf77.specs.Minute.{announced, minuteFields, mark, withParity, firstMarks, minuteText}
-use Rattle.dcf77.specs.Accepts.{AcceptsMinute}
+use Rattle.clock_time.specs.Errors.{accepted}
+use Rattle.gregorian.specs.Date.{sum}
+use Rattle.dcf77.specs.Marks.{binary, twoDigits, longs, bits}
+use Rattle.dcf77.specs.Minute.{announced, minuteFields, readMinute, mark, withParity, firstMarks, minuteText}
+use Rattle.dcf77.specs.Says.{fourMarks, RunRules, LeapRule}
+use Rattle.dcf77.specs.declared.MinuteTime.{MinuteTime}
+use Rattle.dcf77.proofs.SaysLaws.{four, longs-sum, long-enough}
+use Rattle.dcf77.proofs.AcceptLaws.{read-keeps}
 use Rattle.dcf77.proofs.BitLaws.{marksFrom, marks-all, marks-join, bits-binary, parity-mark, parity-last}
 use Rattle.dcf77.proofs.BitLaws.{ones-digit, tens-digit, year-digits}
 
@@ -28,7 +33,14 @@ other-mark a b h l differ = elim (ℕ-discrete a 1) [
   | no e ↦ simp (ne-eqb a 1 e) (omega arith)
 ]
 
-module _ (m : List ℕ) (r : AcceptsMinute m) where
+module _ (m : List ℕ) (r : RunRules m) where
+  -- ---- the rules, of what the reader takes from the marks
+  digit : (at : ℕ) → fourMarks m at ≤ 9 → binary 4 at m ≤ 9
+  digit at h = rw (four m at) h
+
+  even : (k at : ℕ) → at + k ≤ 59 → sum (take k (drop at m)) % 2 ≡ 0 → longs k at m % 2 ≡ 0
+  even k at h e = rw (longs-sum m k at (omega (arith, long-enough r))) e
+
   -- ---- the three groups
   number-group : (at tens : ℕ) → binary 4 at m ≤ 9 → longs (4 + tens + 1) at m % 2 ≡ 0
       → withParity (bits 4 (twoDigits at tens m % 10) ++ bits tens (twoDigits at tens m / 10))
@@ -45,7 +57,7 @@ module _ (m : List ℕ) (r : AcceptsMinute m) where
 
   year-small : twoDigits 50 4 m < 100
   unfolding twoDigits
-  year-small = omega (arith, r .yearDigit, r .decadeDigit)
+  year-small = omega (arith, digit 50 (r .year-digit), digit 54 (r .decade-digit))
 
   date-group : let t = announced m in
       withParity (bits 4 (t .day % 10) ++ bits 2 (t .day / 10) ++ bits 3 (t .weekday) ++ bits 4 (t .month % 10)
@@ -54,12 +66,12 @@ module _ (m : List ℕ) (r : AcceptsMinute m) where
   date-group =
       let year = year-digits (twoDigits 50 4 m) year-small in
       rw (
-        ones-digit m 36 2 (r .dayDigit),
-        tens-digit m 36 2 (r .dayDigit),
-        ones-digit m 45 1 (r .monthDigit),
-        tens-digit m 45 1 (r .monthDigit),
-        year .0 ∙ ones-digit m 50 4 (r .yearDigit),
-        year .1 ∙ tens-digit m 50 4 (r .yearDigit),
+        ones-digit m 36 2 (digit 36 (r .day-digit)),
+        tens-digit m 36 2 (digit 36 (r .day-digit)),
+        ones-digit m 45 1 (digit 45 (r .month-digit)),
+        tens-digit m 45 1 (digit 45 (r .month-digit)),
+        year .0 ∙ ones-digit m 50 4 (digit 50 (r .year-digit)),
+        year .1 ∙ tens-digit m 50 4 (digit 50 (r .year-digit)),
         bits-binary m (r .sure) 4 36,
         bits-binary m (r .sure) 2 40,
         bits-binary m (r .sure) 3 42,
@@ -67,7 +79,7 @@ module _ (m : List ℕ) (r : AcceptsMinute m) where
         bits-binary m (r .sure) 1 49,
         bits-binary m (r .sure) 4 50,
         bits-binary m (r .sure) 4 54,
-        parity-mark m (r .sure) 22 36 (r .dateParity),
+        parity-mark m (r .sure) 22 36 (even 23 36 (lit≤ tt) (r .date-parity)),
       )
 
   -- ---- the whole run
@@ -75,8 +87,8 @@ module _ (m : List ℕ) (r : AcceptsMinute m) where
   unfolding firstMarks minuteFields announced marksFrom
   first-marks =
       rw (
-        number-group 21 3 (r .minuteDigit) (r .minuteParity),
-        number-group 29 2 (r .hourDigit) (r .hourParity),
+        number-group 21 3 (digit 21 (r .minute-digit)) (even 8 21 (lit≤ tt) (r .minute-parity)),
+        number-group 29 2 (digit 29 (r .hour-digit)) (even 7 29 (lit≤ tt) (r .hour-parity)),
         date-group,
         bits-binary m (r .sure) 14 1,
         flag-mark (getD m 15 0) (r .sure 15),
@@ -95,7 +107,10 @@ module _ (m : List ℕ) (r : AcceptsMinute m) where
       let all : marksFrom n 0 m ≡ m = rw (← e) (marks-all m) in
       ap (λ (l : List ℕ). l ++ cond (eqb (length m) 60) (0 ∷ []) []) first-marks ∙ rw e (last ∙ all)
 
-  pub minute-back : minuteText (minuteFields m) ≡ m
+  minute-back : LeapRule m (announced m) → minuteText (minuteFields m) ≡ m
   unfolding marksFrom
-  minute-back =
-      ⊎-elim (λ e. whole-run 59 e refl) (λ e. whole-run 60 e (rw (r .leap e .1))) (r .long)
+  minute-back leap =
+      ⊎-elim (λ e. whole-run 59 e refl) (λ e. whole-run 60 e (rw (leap e .1))) (r .marks)
+
+pub text-read : (m : List ℕ) (a : MinuteTime) → readMinute m ≡ accepted a → minuteText a ≡ m
+text-read m a h = let w = read-keeps m a h in rw (w .1) (minute-back m (w .0 .0) (w .0 .2))

@@ -2,8 +2,9 @@
 pub mod MarkLaws
 pub mod NumberLaws
 pub mod CheckLaws
-pub mod AcceptLaws
 pub mod SaysLaws
+pub mod LinesLaws
+pub mod AcceptLaws
 pub mod BitLaws
 pub mod BackLaws
 pub mod SameLaws

@@ -6,7 +6,7 @@ use native.Mathlib.Decide.{decLt, ℕ-discrete}
 use native.Mathlib.Numerals.{add-one}
 use native.Mathlib.Omega.{arith}
 use mathlib.Core.Path.{_≡_, refl, sym, ap, _∙_}
-use mathlib.Core.Bool.{Bool, true, false, _&&_, and-assoc}
+use mathlib.Core.Bool.{true, false, _&&_, and-assoc}
 use mathlib.Core.List.{List, [], _∷_}
 use lib.Dec.{ltb, leb, eqb, lit<}
 use lib.ListN.{length, getD, List·getD-eq-default}
@@ -16,6 +16,7 @@ use lib.Arith.{digits-div, digits-mod}
 use borrow.Author.Tests.{leb-true, ltb-true, lt-ltb, le-ltb, lt-leb, le-leb, eq-eqb, ne-eqb}
 use Rattle.bits.proofs.ByteLaws.{zero-block, word}
 use Rattle.clock_time.proofs.Tests.{both}
+use Rattle.clock_time.proofs.ExactLaws.{same-tests}
 use Rattle.dcf77.specs.Marks.{allSure, sureFrom, eightSure, binary, longs}
 use Rattle.dcf77.specs.Numbers.{fourBytes}
 
@@ -102,15 +103,9 @@ module _ (at : ℕ) (m : List ℕ) where
       let w = both (leb (at + 8) (length m)) (sureFrom 8 at m) h in
       (leb-true (at + 8) (length m) (w .0), from-small m 8 at (w .1))
 
--- two tests are the same if each passes where the other does
-pub same-test : (t u : Bool) → (t ≡ true → u ≡ true) → (u ≡ true → t ≡ true) → t ≡ u
-same-test true u f g = sym (f refl)
-same-test false true f g = g refl
-same-test false false f g = refl
-
 module _ (m : List ℕ) (long : 59 ≤ length m) (most : length m ≤ 60) where
   ends-sure : (sureFrom 56 0 m && sureFrom 8 (length m - 8) m) ≡ allSure m
-  ends-sure = same-test _ _ all ends
+  ends-sure = same-tests _ (allSure m) (all, ends) (λ h. h, λ h. h)
     where
       all : (sureFrom 56 0 m && sureFrom 8 (length m - 8) m) ≡ true → allSure m ≡ true
       all h =

@@ -1,24 +1,29 @@
--- The run that is made of a minute whose fields pass the writer's test is accepted, and its fields are the minute's.
--- Assumes nothing.
+-- The run that is made of a minute whose fields pass the writer's test keeps the rules, and its fields are those of the
+-- minute. Assumes nothing.
 use Prim.Native.Nat.{ℕ, zero, suc, _+_, _/_, _%_, _≤_}
 use native.Mathlib.Omega.{arith}
 use mathlib.Core.Path.{_≡_, refl, sym, ap, _∙_}
-use mathlib.Core.Logic.{_⊎_, inl, inr}
+use mathlib.Core.Logic.{_⊎_, inl, inr, ⊎-elim}
 use mathlib.Core.Bool.{Bool, true, false, cond, not, _&&_, and-assoc}
 use mathlib.Core.List.{List, [], _∷_, _++_}
-use lib.Dec.{leb, ltb, eqb}
+use lib.Dec.{leb, ltb, eqb, lit≤}
 use lib.IntN.{pos}
-use lib.ListN.{length, getD}
+use lib.ListN.{length, getD, take, drop}
 use borrow.Author.Tests.{not-false, eqb-true, lt-ltb}
 use Rattle.clock_time.proofs.Tests.{both}
 use Rattle.gregorian.specs.Date.{sum, dateExists, knownDate, fullYear}
-use Rattle.calendar.specs.TimeOfDay.{timeExists}
 use Rattle.gregorian.proofs.DateLaws.{Known, known}
-use Rattle.dcf77.specs.Marks.{long, allSure, binary, twoDigits, bits}
+use Rattle.gregorian.proofs.RulesLaws.{date-exactly}
+use Rattle.calendar.specs.TimeOfDay.{timeExists}
+use Rattle.calendar.specs.Rules.{ReadingRules}
+use Rattle.calendar.proofs.RulesLaws.{time-exactly}
+use Rattle.dcf77.specs.Marks.{long, allSure, binary, twoDigits, longs, bits}
 use Rattle.dcf77.specs.Minute.{announced, minuteFields, mark, firstMarks, minuteText}
-use Rattle.dcf77.specs.Accepts.{AcceptsMinute}
+use Rattle.dcf77.specs.Says.{fourMarks, RunRules}
 use Rattle.dcf77.specs.declared.MinuteTime.{MinuteTime}
 use Rattle.dcf77.proofs.MarkLaws.{sure-small}
+use Rattle.dcf77.proofs.SaysLaws.{four, longs-sum}
+use Rattle.dcf77.proofs.AcceptLaws.{KeepsRules}
 use Rattle.dcf77.proofs.BitLaws.{marksFrom, parity-even, binary-bits, two-digits}
 use Rattle.dcf77.proofs.FitLaws.{Fits}
 
@@ -203,30 +208,42 @@ module _ (a : MinuteTime) (w : Fits a) where
   unfolding minuteText firstMarks bits marksFrom
   parities = (refl, refl, refl)
 
-  weekday-fits : (1 ≤ announced (minuteText a) .weekday) × (announced (minuteText a) .weekday ≤ 7)
-  unfolding announced
-  weekday-fits = (omega (arith, spelled .weekday), omega (arith, spelled .weekday))
+  even : (k at : ℕ) → at + k ≤ 59 → longs k at (minuteText a) % 2 ≡ 0 → sum (take k (drop at (minuteText a))) % 2 ≡ 0
+  even k at h e =
+      let l : 59 ≤ length (minuteText a) = ⊎-elim (λ e. omega arith) (λ e. omega arith) text-long in
+      rw (longs-sum (minuteText a) k at (omega arith)) at e
 
-  pub text-accepted : AcceptsMinute (minuteText a)
-  text-accepted =
+  digit : (at n : ℕ) → binary 4 at (minuteText a) ≡ n % 10 → fourMarks (minuteText a) at ≤ 9
+  digit at n e = omega (arith, four (minuteText a) at)
+
+  run-keeps : RunRules (minuteText a)
+  run-keeps =
       record {
-        long = text-long;
+        marks = text-long;
         sure = sure-small (minuteText a) (text-sure a);
         first = opened .0;
         start = opened .1;
         zone = opened .2;
-        minuteParity = parity-even (minuteText a) 7 21 (parities .0);
-        hourParity = parity-even (minuteText a) 6 29 (parities .1);
-        dateParity = parity-even (minuteText a) 22 36 (parities .2);
-        minuteDigit = omega (arith, spelled .minute);
-        hourDigit = omega (arith, spelled .hour);
-        dayDigit = omega (arith, spelled .day);
-        monthDigit = omega (arith, spelled .month);
-        yearDigit = omega (arith, spelled .year);
-        decadeDigit = omega (arith, spelled .decade);
-        monday = weekday-fits .0;
-        sunday = weekday-fits .1;
-        date = date-exists;
-        time = time-exists;
-        leap = leap-holds;
+        minute-parity = even 8 21 (lit≤ tt) (parity-even (minuteText a) 7 21 (parities .0));
+        hour-parity = even 7 29 (lit≤ tt) (parity-even (minuteText a) 6 29 (parities .1));
+        date-parity = even 23 36 (lit≤ tt) (parity-even (minuteText a) 22 36 (parities .2));
+        minute-digit = digit 21 _ (spelled .minute);
+        hour-digit = digit 29 _ (spelled .hour);
+        day-digit = digit 36 _ (spelled .day);
+        month-digit = digit 45 _ (spelled .month);
+        year-digit = digit 50 _ (spelled .year);
+        decade-digit = digit 54 _ (spelled .decade);
       }
+
+  time-keeps : ReadingRules (announced (minuteText a))
+  unfolding announced
+  time-keeps =
+      record {
+        date = date-exactly _ _ _ .0 date-exists;
+        time = time-exactly _ _ _ _ .0 time-exists;
+        monday = omega (arith, spelled .weekday);
+        sunday = omega (arith, spelled .weekday);
+      }
+
+  pub text-keeps : KeepsRules (minuteText a)
+  text-keeps = (run-keeps, time-keeps, leap-holds)

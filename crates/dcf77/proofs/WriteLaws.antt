@@ -1,28 +1,30 @@
--- A run of marks is read back as a minute exactly if the minute's fields pass the writer's test. Assumes nothing.
-use Prim.Native.Nat.{ℕ, _<_}
-use mathlib.Core.Path.{_≡_, refl, _∙_}
+-- A run of marks is read back as a minute exactly if the minute's fields pass the writer's test.
+use Prim.Native.Nat.{ℕ, _<_, suc-le-suc}
+use mathlib.Core.Path.{_≡_, refl, sym, _∙_}
+use mathlib.Core.Logic.{_↔_}
 use mathlib.Core.Bool.{Bool, true, false, cond, _&&_, false≢true}
 use mathlib.Core.List.{List}
-use lib.Dec.{ltb, eqb}
+use lib.Dec.{eqb}
 use lib.IntN.{pos}
 use lib.ListN.{length}
 use borrow.Author.Tests.{eq-eqb, le-leb, lt-ltb}
 use Rattle.clock_time.specs.Errors.{Answer, accepted, refused}
 use Rattle.clock_time.specs.Same.{eqℤ}
 use Rattle.clock_time.specs.Writing.{isAccepted, readsBack}
-use Rattle.clock_time.proofs.Tests.{both}
-use Rattle.calendar.specs.TimeOfDay.{timeExists}
+use Rattle.clock_time.proofs.BackLaws.{back-reads}
+use Rattle.clock_time.proofs.ExactLaws.{same-tests}
 use Rattle.gregorian.proofs.DateLaws.{known-exists}
+use Rattle.gregorian.proofs.RulesLaws.{date-exactly}
 use Rattle.dcf77.specs.Marks.{long, binary, twoDigits}
 use Rattle.dcf77.specs.Minute.{announced, minuteFields, readMinute, minuteText, sameMinute}
-use Rattle.dcf77.specs.Accepts.{AcceptsMinute}
 use Rattle.dcf77.specs.Writable.{fieldsFit, isWritable}
 use Rattle.dcf77.specs.declared.MinuteTime.{MinuteTime}
-use Rattle.dcf77.proofs.MarkLaws.{small-sure, same-test, binary-below}
-use Rattle.dcf77.proofs.AcceptLaws.{leap-passes, read-accepts, accepts-read}
+use Rattle.dcf77.proofs.MarkLaws.{small-sure, binary-below}
+use Rattle.dcf77.proofs.AcceptLaws.{KeepsRules, leap-passes, read-keeps, keeps-read}
+use Rattle.dcf77.proofs.BackLaws.{text-read}
 use Rattle.dcf77.proofs.SameLaws.{sameMinute-refl, sameMinute-true}
 use Rattle.dcf77.proofs.FitLaws.{fits}
-use Rattle.dcf77.proofs.TextLaws.{fields-back, text-accepted}
+use Rattle.dcf77.proofs.TextLaws.{fields-back, text-keeps}
 
 -- ---- what is read passes
 zone-passes : (summer : Bool)
@@ -31,30 +33,25 @@ unfolding eqℤ
 zone-passes true = refl
 zone-passes false = refl
 
-module _ (m : List ℕ) (r : AcceptsMinute m) where
-  time-passes : (ltb (twoDigits 29 2 m) 24 ≡ true) × (ltb (twoDigits 21 3 m) 60 ≡ true)
-  unfolding timeExists announced
-  time-passes =
-      let w = both (ltb (twoDigits 29 2 m) 24 && ltb (twoDigits 21 3 m) 60) _ (r .time) in
-      both (ltb (twoDigits 29 2 m) 24) (ltb (twoDigits 21 3 m) 60) (w .0)
-
+module _ (m : List ℕ) (k : KeepsRules m) where
   leap-told : length m ≡ 60 → (long 19 m && eqb (twoDigits 21 3 m) 0) ≡ true
   unfolding announced
   leap-told e =
-      let l = r .leap e in
+      let l = k .2 e in
       simp (eq-eqb _ _ (l .0), eq-eqb _ _ (l .2))
 
   fields-pass : isWritable (minuteFields m) ≡ true
   unfolding isWritable fieldsFit minuteFields announced
   fields-pass =
-      let marks : binary 14 1 m < 16384 = binary-below m (small-sure m (r .sure)) 14 1 in
+      let marks : binary 14 1 m < 16384 = binary-below m (small-sure m (k .0 .sure)) 14 1 in
+      let t = k .1 in
       simp (
-        known-exists (twoDigits 50 4 m) (twoDigits 45 1 m) (twoDigits 36 2 m) ∙ r .date,
+        known-exists (twoDigits 50 4 m) (twoDigits 45 1 m) (twoDigits 36 2 m) ∙ date-exactly _ _ _ .1 (t .date),
         zone-passes (long 17 m),
-        le-leb _ _ (r .monday),
-        le-leb _ _ (r .sunday),
-        time-passes .0,
-        time-passes .1,
+        le-leb _ _ (t .monday),
+        le-leb _ _ (t .sunday),
+        lt-ltb _ _ (suc-le-suc (t .time .hours)),
+        lt-ltb _ _ (suc-le-suc (t .time .minutes)),
         lt-ltb _ _ marks,
         leap-passes (length m) _ leap-told,
       )
@@ -67,7 +64,7 @@ is-read (refused k) a h = absurd (false≢true h)
 back-writable : (a : MinuteTime) → readsBack readMinute minuteText sameMinute a ≡ true → isWritable a ≡ true
 unfolding readsBack
 back-writable a h =
-    let w = read-accepts (minuteText a) a (is-read (readMinute (minuteText a)) a h) in
+    let w = read-keeps (minuteText a) a (is-read (readMinute (minuteText a)) a h) in
     rw (w .1) (fields-pass (minuteText a) (w .0))
 
 writable-back : (a : MinuteTime) → isWritable a ≡ true → readsBack readMinute minuteText sameMinute a ≡ true
@@ -75,8 +72,16 @@ unfolding readsBack
 writable-back a h =
     let w = fits a h in
     let read : readMinute (minuteText a) ≡ accepted a =
-    rw (accepts-read (minuteText a) (text-accepted a w), fields-back a w) in
+    rw (keeps-read (minuteText a) (text-keeps a w), fields-back a w) in
     rw read (sameMinute-refl a)
 
 pub reads-writable : (a : MinuteTime) → readsBack readMinute minuteText sameMinute a ≡ isWritable a
-reads-writable a = same-test _ _ (back-writable a) (writable-back a)
+reads-writable a = same-tests _ (isWritable a) (back-writable a, writable-back a) (λ h. h, λ h. h)
+
+pub written-exactly : (m : List ℕ) (a : MinuteTime)
+    → (readMinute m ≡ accepted a) ↔ ((isWritable a ≡ true) × (minuteText a ≡ m))
+unfolding readsBack
+written-exactly m a = (
+  λ h. let e = text-read m a h in (sym (reads-writable a) ∙ rw (e, h) (sameMinute-refl a), e),
+  λ w. rw (w .1) at (back-reads readMinute minuteText sameMinute sameMinute-true a (reads-writable a ∙ w .0)),
+)

@@ -5,3 +5,4 @@ pub mod Accepts
 pub mod Numbers
 pub mod Writable
 pub mod Says
+pub mod Lines

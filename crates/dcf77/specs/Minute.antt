@@ -51,7 +51,7 @@ minuteFields m =
     }
 
 -- "For a minute: 11, 12, 13, 14, 15, 16, 17, 18, 7, 5, 6, 19" (01, Refusal numbers), each line of the table at its
--- number; `Accepts` quotes them
+-- number; `Lines` quotes them
 unfoldable pub minuteChecks : List ℕ → List Check
 minuteChecks m =
     let t = announced m in

@@ -17,7 +17,8 @@ use Rattle.meinberg_gps.proofs.Theorems as gpss
 use Rattle.elv_dcf7000.specs.Elv.{readElv}
 use Rattle.elv_dcf7000.proofs.Theorems as elvs
 use Rattle.dcf77.specs.Accepts.{AcceptsMinute}
-use Rattle.dcf77.specs.Minute.{minuteFields, readMinute}
+use Rattle.dcf77.specs.Minute.{readMinute}
+use Rattle.dcf77.specs.declared.MinuteTime.{MinuteTime}
 use Rattle.dcf77.proofs.Theorems as minutes
 use Rattle.time_string.specs.Kind.{Reading, time, timeAndPosition, plain, located, readAs}
 use Rattle.time_string.specs.declared.Kind.{Kind}
@@ -82,17 +83,14 @@ module _ (n : ℕ) (kind : Kind) (named : kindNamed n ≡ accepted kind) (s : Li
       rw (named, read-as-exactly kind s r .1 h) (put-accepted readingNumbers fields r room)
 
 module _ (m : List ℕ) (fields : List ℤ) where
-  pub minute-rules : readMinuteInto m fields .answer ≡ accepted tt → AcceptsMinute m
+  pub minute-rules : readMinuteInto m fields .answer ≡ accepted tt → (a : MinuteTime) × AcceptsMinute m a
   unfolding readMinuteInto
   minute-rules h =
       let a = accepted-put minuteNumbers fields (readMinute m) h in
-      minutes.faithful .accepted-exactly m (a .0) .0 (a .1) .0
+      (a .0, minutes.faithful .accepted-exactly m (a .0) .0 (a .1))
 
-  pub minute-numbers : AcceptsMinute m → length (minuteNumbers (minuteFields m)) ≤ length fields
-      → readMinuteInto m fields
-      ≡ exit (accepted tt)
-      (minuteNumbers (minuteFields m) ++ drop (length (minuteNumbers (minuteFields m))) fields)
+  pub minute-numbers : (a : MinuteTime) → AcceptsMinute m a → length (minuteNumbers a) ≤ length fields
+      → readMinuteInto m fields ≡ exit (accepted tt) (minuteNumbers a ++ drop (length (minuteNumbers a)) fields)
   unfolding readMinuteInto
-  minute-numbers h room =
-      rw (minutes.faithful .accepted-exactly m (minuteFields m) .1 (h, refl))
-      (put-accepted minuteNumbers fields (minuteFields m) room)
+  minute-numbers a h room =
+      rw (minutes.faithful .accepted-exactly m a .1 h) (put-accepted minuteNumbers fields a room)

@@ -28,6 +28,7 @@ use Rattle.signed.proofs.SignedLaws.{signed-size}
 use Rattle.dcf77.specs.Minute.{minuteFields, readMinute}
 use Rattle.dcf77.specs.declared.MinuteTime.{MinuteTime}
 use Rattle.dcf77.proofs.MarkLaws.{small-sure, binary-below}
+use Rattle.dcf77.proofs.AcceptLaws.{read-keeps}
 use Rattle.dcf77.proofs.Theorems as minute
 use Rattle.time_string.specs.Kind.{Reading, time, timeAndPosition, readingTime, plain, located, readAs}
 use Rattle.time_string.specs.declared.Kind.{Kind}
@@ -97,8 +98,8 @@ position-holds s g h =
 pub marks-small : (m : List ℕ) (a : MinuteTime) → readMinute m ≡ accepted a → a .detail .marks ≤ 65535
 unfolding minuteFields
 marks-small m a h =
-    let r = minute.faithful .accepted-exactly m a .0 h in
-    let small = binary-below m (small-sure m (r .0 .sure)) 14 1 in
+    let r = read-keeps m a h in
+    let small = binary-below m (small-sure m (r .0 .0 .sure)) 14 1 in
     rw (r .1) (omega arith)
 
 -- ---- by kind

@@ -317,7 +317,7 @@ gps-faithful = gpss.faithful
 pub elv-faithful : Faithful AcceptsElv readElv writeElv
 elv-faithful = elvs.faithful
 
-pub minute-faithful : Faithful (ByFields AcceptsMinute minuteFields) readMinute writeMinute
+pub minute-faithful : Faithful AcceptsMinute readMinute writeMinute
 minute-faithful = minutes.faithful
 
 -- "A string or a DCF77 minute is accepted exactly when the rules in document 01 hold, and then every field, offset and
@@ -337,14 +337,12 @@ pub c-fields : (n : ℕ) (kind : Kind) → kindNamed n ≡ accepted kind → (s 
 c-fields = rules.read-numbers
 
 pub c-minute-accepted : (m : List ℕ) (fields : List ℤ) → readMinuteInto m fields .answer ≡ accepted tt
-    → AcceptsMinute m
+    → (a : MinuteTime) × AcceptsMinute m a
 c-minute-accepted = rules.minute-rules
 
-pub c-minute-fields : (m : List ℕ) (fields : List ℤ) → AcceptsMinute m
-    → length (minuteNumbers (minuteFields m)) ≤ length fields
-    → readMinuteInto m fields
-    ≡ exit (accepted tt)
-    (minuteNumbers (minuteFields m) ++ drop (length (minuteNumbers (minuteFields m))) fields)
+pub c-minute-fields : (m : List ℕ) (fields : List ℤ) (a : MinuteTime) → AcceptsMinute m a
+    → length (minuteNumbers a) ≤ length fields
+    → readMinuteInto m fields ≡ exit (accepted tt) (minuteNumbers a ++ drop (length (minuteNumbers a)) fields)
 c-minute-fields = rules.minute-numbers
 
 -- "Written back, an accepted reading gives the same bytes or marks.": from C, where a reading is an array of numbers

@@ -1,17 +1,16 @@
 -- What a reader accepts is a valid reading, and a valid reading's numbers are small. Assumes nothing.
 use Prim.Native.Nat.{ℕ, _≤_}
 use native.Mathlib.Omega.{arith}
-use mathlib.Core.Path.{_≡_, refl}
-use mathlib.Core.Bool.{true, false}
+use mathlib.Core.Path.{_≡_}
+use mathlib.Core.Bool.{true}
 use mathlib.Core.List.{List}
 use lib.IntN.{ℤ, pos, negsuc, natAbs}
 use borrow.Author.Tests.{leb-true, le-leb}
 use Rattle.clock_time.specs.Errors.{accepted}
 use Rattle.clock_time.specs.declared.ClockTime.{ClockTime}
 use Rattle.calendar.specs.UnixTime.{offsetInRange, isValid}
-use Rattle.calendar.proofs.ValidLaws.{valid, checked-valid, zone-in-range}
-use Rattle.dcf77.specs.Marks.{long, twoDigits}
-use Rattle.dcf77.specs.Minute.{announced, minuteFields, readMinute}
+use Rattle.calendar.proofs.ValidLaws.{valid}
+use Rattle.dcf77.specs.Minute.{readMinute}
 use Rattle.dcf77.specs.declared.MinuteTime.{MinuteTime}
 use Rattle.dcf77.proofs.Theorems as minute
 use Rattle.clock_fields.specs.Ranges.{range, i16Range, within}
@@ -41,9 +40,4 @@ valid-holds t h =
     }
 
 pub minute-valid : (m : List ℕ) (a : MinuteTime) → readMinute m ≡ accepted a → isValid (a .time) ≡ true
-unfolding minuteFields announced
-minute-valid m a h =
-    let r = minute.faithful .accepted-exactly m a .0 h in
-    let b = r .0 in
-    let zone = zone-in-range false (long 17 m) in
-    rw (r .1) (checked-valid (announced m) (twoDigits 50 4 m) refl (b .date) (b .time) (b .monday) (b .sunday) zone)
+minute-valid = minute.valid-read

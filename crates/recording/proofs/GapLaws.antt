@@ -1,6 +1,6 @@
 -- Laws of the gaps of a recording, and of what a mark at one place changes in them. Assumes nothing.
 use Prim.Native.Nat.{ℕ, zero, suc, _+_, _-_, _<_, _≤_, zero-le, suc-le-suc}
-use native.Mathlib.Decide.{ℕ-discrete}
+use native.Mathlib.Decide.{decLt, ℕ-discrete}
 use native.Mathlib.Nat.{not-suc-le-zero, add-zero}
 use native.Mathlib.Numerals.{add-one}
 use native.Mathlib.Omega.{arith}
@@ -14,7 +14,7 @@ use lib.Seq.{drop-cons, getD-set-other, drop-set-lt, getD-drop}
 use borrow.Author.Tests.{eq-eqb, ne-eqb}
 use Rattle.dcf77.specs.Marks.{eightSure}
 use Rattle.dcf77.proofs.MarkLaws.{eight-small}
-use Rattle.recording.specs.Gaps.{gapBefore, firstGap, gapAfter, FirstGapAfter}
+use Rattle.recording.specs.Gaps.{gapBefore, firstGap, gapAfter, FirstGapAfter, NearestGapBefore}
 
 -- ---- what is found is one place
 pub some-one : (x : Option ℕ) (g k : ℕ) → x ≡ some g → x ≡ some k → g ≡ k
@@ -53,13 +53,62 @@ pub after-start : (m : List ℕ) (p : ℕ) → firstGap (drop (p + 1) m) (p + 1)
 unfolding gapAfter
 after-start m p = simp add-one
 
-pub before-earlier : (m : List ℕ) (i g : ℕ) → gapBefore m i ≡ some g → g < i
-before-earlier m zero g e = absurd (none-some _ g (before-start m zero refl) e)
-before-earlier m (suc i) g e =
-    elim (ℕ-discrete (getD m i 0) 2) [
-      | yes q ↦ let z : i ≡ g = some-one _ i g (before-gap m (suc i) i refl q) e in omega arith
-      | no q ↦ let l : g < i = before-earlier m i g (sym (before-more m (suc i) i refl q) ∙ e) in omega arith
+-- ---- the search back finds exactly the nearest earlier gap
+pub before-none : (m : List ℕ) (p : ℕ) → gapBefore m p ≡ none → (i : ℕ) → i < p → getD m i 0 ≡ 2 → ⊥
+before-none m zero e i h q = not-suc-le-zero h
+before-none m (suc p) e i h q =
+    elim (ℕ-discrete (getD m p 0) 2) [
+      | yes g ↦ none-some _ p e (before-gap m (suc p) p refl g)
+      | no g ↦ elim (ℕ-discrete i p) [
+        | yes w ↦ g (ap (λ (k : ℕ). getD m k 0) (sym w) ∙ q)
+        | no w ↦ before-none m p (sym (before-more m (suc p) p refl g) ∙ e) i (omega arith) q
+      ]
     ]
+
+pub before-is-nearest : (m : List ℕ) (p g : ℕ) → gapBefore m p ≡ some g → NearestGapBefore m p g
+before-is-nearest m zero g e = absurd (none-some _ g (before-start m zero refl) e)
+before-is-nearest m (suc p) g e =
+    elim (ℕ-discrete (getD m p 0) 2) [
+      | yes q ↦ let z : p ≡ g = some-one _ p g (before-gap m (suc p) p refl q) e in
+          record {
+            earlier = omega arith;
+            mark = ap (λ (k : ℕ). getD m k 0) (sym z) ∙ q;
+            nearest = λ i a b h. omega arith;
+          }
+      | no q ↦ let r = before-is-nearest m p g (sym (before-more m (suc p) p refl q) ∙ e) in
+          record {
+            earlier = omega (arith, r .earlier);
+            mark = r .mark;
+            nearest = λ i a b h. elim (ℕ-discrete i p) [
+              | yes w ↦ q (ap (λ (k : ℕ). getD m k 0) (sym w) ∙ h)
+              | no w ↦ r .nearest i a (omega arith) h
+            ];
+          }
+    ]
+
+nearest-one : (m : List ℕ) (p g k : ℕ) → NearestGapBefore m p g → NearestGapBefore m p k → g ≡ k
+nearest-one m p g k a b =
+    elim (decLt g k) [
+      | yes l ↦ absurd (a .nearest k l (b .earlier) (b .mark))
+      | no l ↦ elim (ℕ-discrete g k) [
+        | yes e ↦ e
+        | no e ↦ absurd (b .nearest g (omega arith) (a .earlier) (a .mark))
+      ]
+    ]
+
+pub nearest-is-before : (m : List ℕ) (p g : ℕ) → NearestGapBefore m p g → gapBefore m p ≡ some g
+nearest-is-before m p g n = go (gapBefore m p) refl
+  where
+    go : (x : Option ℕ) → gapBefore m p ≡ x → x ≡ some g
+    go none e = absurd (before-none m p e g (n .earlier) (n .mark))
+    go (some k) e = ap some (nearest-one m p k g (before-is-nearest m p k e) n)
+
+pub none-before : (m : List ℕ) (p : ℕ) → ((i : ℕ) → i < p → getD m i 0 ≡ 2 → ⊥) → gapBefore m p ≡ none
+none-before m p n = go (gapBefore m p) refl
+  where
+    go : (x : Option ℕ) → gapBefore m p ≡ x → x ≡ none
+    go none e = refl
+    go (some k) e = let b = before-is-nearest m p k e in absurd (n k (b .earlier) (b .mark))
 
 -- ---- past places that are no gaps
 -- what is the same at each place and the next is the same at the first and the last

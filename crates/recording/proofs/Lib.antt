@@ -2,6 +2,7 @@
 pub mod GapLaws
 pub mod OutcomeLaws
 pub mod RuleLaws
+pub mod SheetLaws
 pub mod FillLaws
 pub mod RecordingLaws
 pub mod DemandLaws

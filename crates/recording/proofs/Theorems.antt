@@ -12,9 +12,11 @@ use Rattle.recording.specs.declared.CorrectAnswer.{CorrectAnswer}
 use Rattle.recording.specs.Gaps.{FirstGapAfter}
 use Rattle.recording.specs.Outcomes.{Right, numbers, differences}
 use Rattle.recording.specs.Recording.{rule, outcomeAt, filling, fillOutcomes, correction, correctMark}
+use Rattle.recording.specs.SheetNumber.{SheetNumber}
 use Rattle.recording.specs.Demand.{Corrected}
 use Rattle.recording.proofs.GapLaws.{first-set}
 use Rattle.recording.proofs.OutcomeLaws.{right-numbers}
+use Rattle.recording.proofs.SheetLaws.{rule-exactly}
 use Rattle.recording.proofs.RecordingLaws.{outcome-fits, fill-kept, fill-right, fill-fits}
 use Rattle.recording.proofs.RecordingLaws.{correct-kept, correct-fits}
 use Rattle.recording.proofs.DemandLaws.{correct-corrected}
@@ -77,3 +79,9 @@ module _ (marks outcomes outcomes′ : List ℕ) where
   pub refused-filling-changes-nothing : (e : Error)
       → filling (FillAnswer.Refused e) outcomes′ ≡ fillOutcomes marks outcomes → outcomes′ ≡ outcomes
   refused-filling-changes-nothing e h = fill-kept marks outcomes outcomes′ e h
+
+-- ---- the rule
+-- "Sheet number: 0 where there is no gap; at a gap the refusal number; or, accepted, 100 + [..]" (01, Tape and sheet):
+-- the rule gives each place the number in words, and no other
+pub rule-in-words : (marks : List ℕ) (place n : ℕ) → (rule marks place ≡ n) ↔ SheetNumber marks place n
+rule-in-words = rule-exactly

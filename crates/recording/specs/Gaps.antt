@@ -34,6 +34,13 @@ pub record FirstGapAfter (marks : List ℕ) (place gap : ℕ) : Type 0 where
   pub mark : getD marks gap 0 ≡ 2
   pub nearest : (i : ℕ) → place < i → i < gap → getD marks i 0 ≡ 2 → ⊥
 
+-- "The run at a gap is what lies between it and the nearest earlier gap." (01, DCF77 marks): which gap that is, in the
+-- paper's words
+pub record NearestGapBefore (marks : List ℕ) (place gap : ℕ) : Type 0 where
+  pub earlier : gap < place
+  pub mark : getD marks gap 0 ≡ 2
+  pub nearest : (i : ℕ) → gap < i → i < place → getD marks i 0 ≡ 2 → ⊥
+
 -- the place that the code's answer names, where it names one
 abbrev pub gapOf : Gap → Option ℕ
 gapOf Nothing = none

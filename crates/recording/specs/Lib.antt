@@ -4,3 +4,4 @@ pub mod Outcomes
 pub mod Rule
 pub mod Recording
 pub mod Demand
+pub mod SheetNumber

@@ -1,2 +1,4 @@
--- Laws of an accepted minute.
+-- Laws of an accepted minute and of numbers, and the main result.
 pub mod RunLaws
+pub mod NumberLaws
+pub mod Theorems

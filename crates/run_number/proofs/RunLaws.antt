@@ -9,17 +9,18 @@ use Rattle.clock_time.specs.Errors.{accepted}
 use Rattle.clock_time.specs.Same.{eqℤ}
 use Rattle.gregorian.specs.Date.{knownDate}
 use Rattle.gregorian.proofs.DateLaws.{known-exists}
+use Rattle.gregorian.proofs.RulesLaws.{date-exactly}
 use Rattle.dcf77.specs.Marks.{long, twoDigits}
 use Rattle.dcf77.specs.Minute.{announced, minuteFields, readMinute}
 use Rattle.dcf77.specs.declared.MinuteTime.{MinuteTime}
-use Rattle.dcf77.proofs.AcceptLaws.{read-accepts}
+use Rattle.dcf77.proofs.AcceptLaws.{read-keeps}
 
 pub accepted-known : (m : List ℕ) (a : MinuteTime) → readMinute m ≡ accepted a
     → knownDate (a .time .year) (a .time .month) (a .time .day) ≡ true
 unfolding minuteFields announced
 accepted-known m a h =
-    let r = read-accepts m a h in
-    rw (r .1) (known-exists (twoDigits 50 4 m) _ _ ∙ r .0 .date)
+    let w = read-keeps m a h in
+    rw (w .1) (known-exists (twoDigits 50 4 m) _ _ ∙ date-exactly _ _ _ .1 (w .0 .1 .date))
 
 zone-summer : (summer : Bool) → eqℤ (cond summer (pos 120) (pos 60)) (pos 120) ≡ summer
 unfolding eqℤ
@@ -29,4 +30,4 @@ zone-summer false = refl
 pub accepted-summer : (m : List ℕ) (a : MinuteTime) → readMinute m ≡ accepted a
     → eqℤ (a .time .«utc_offset») (pos 120) ≡ a .time .«summer_time»
 unfolding minuteFields announced
-accepted-summer m a h = rw (read-accepts m a h .1) (zone-summer (long 17 m))
+accepted-summer m a h = rw (read-keeps m a h .1) (zone-summer (long 17 m))

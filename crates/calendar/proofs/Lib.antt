@@ -1,4 +1,6 @@
--- Laws of the definitions.
+-- Laws of the definitions, and the main results.
 pub mod SignedLaws
 pub mod ValidLaws
 pub mod RulesLaws
+pub mod MidnightLaws
+pub mod Theorems

@@ -88,19 +88,21 @@ nothing-complete e = let z : _≡_ {A = ℕ} 0 1 = cc in absurd (omega arith)
 pub dropped-complete : {A : Type 0} {n : ℕ} → dropped ≡ complete n → A
 dropped-complete e = let z : _≡_ {A = ℕ} 0 1 = cc in absurd (omega arith)
 
--- no complete string has more than 66 bytes, from any state
-pub step-few : (f : Framer) (b n : ℕ) → stepOf f b .answer ≡ complete n → n ≤ 66
-step-few f b n = step-cases (λ r. r .answer ≡ complete n → n ≤ 66) f b (λ e. nothing-complete) etx plain
+-- a complete string has 1 to 66 bytes, from any state
+pub step-complete : (f : Framer) (b n : ℕ) → stepOf f b .answer ≡ complete n → (1 ≤ n) × (n ≤ 66)
+step-complete f b n =
+    step-cases (λ r. r .answer ≡ complete n → (1 ≤ n) × (n ≤ 66)) f b (λ e. nothing-complete) etx plain
   where
-    etx : b ≡ 3 → (m : Mode) → placeOf (f .count) (f .mode) ≡ m → etxAt m f .answer ≡ complete n → n ≤ 66
+    etx : b ≡ 3 → (m : Mode) → placeOf (f .count) (f .mode) ≡ m → etxAt m f .answer ≡ complete n
+        → (1 ≤ n) × (n ≤ 66)
     etx e Outside at h = nothing-complete h
     etx e Inside at h =
         let q : f .count + 1 ≡ n = cc in
-        omega (arith, q, inside-room (f .count) (f .mode) at)
+        (omega (arith, q), omega (arith, q, inside-room (f .count) (f .mode) at))
     etx e Overlong at h = dropped-complete h
 
     plain : eqb b 2 || eqb b 3 ≡ false → (m : Mode) → placeOf (f .count) (f .mode) ≡ m
-        → plainAt m f b .answer ≡ complete n → n ≤ 66
+        → plainAt m f b .answer ≡ complete n → (1 ≤ n) × (n ≤ 66)
     plain h Outside at = nothing-complete
     plain h Inside at = nothing-complete
     plain h Overlong at = nothing-complete

@@ -11,7 +11,7 @@ use Rattle.framing.specs.declared.Framer.{Framer}
 use Rattle.framing.specs.Step.{FeedAnswer, nothingYet, complete, stepOf}
 use Rattle.framing.specs.Feed.{Feeding, feeding, isNothing, later, feedOf}
 use Rattle.framing.specs.Steps.{steps, answerAt, BySteps}
-use Rattle.framing.proofs.StepLaws.{nothing-complete, step-few}
+use Rattle.framing.proofs.StepLaws.{nothing-complete, step-complete}
 use Rattle.framing.proofs.FeedLaws.{loud-some, feed-cases}
 
 by-steps-none : (f : Framer) (s : List ℕ) (limit : ℕ) → 0 ≡ min limit (length s)
@@ -97,10 +97,10 @@ feed-taken f s limit =
     go zero e h = omega (arith, w .whole (w .none e))
     go (suc t) e h = omega arith
 
--- no complete string has more than 66 bytes, from any state
-pub feed-few : (f : Framer) (s : List ℕ) (n : ℕ) → feedOf f s .answer ≡ complete n → n ≤ 66
+-- a complete string has 1 to 66 bytes, from any state
+pub feed-complete : (f : Framer) (s : List ℕ) (n : ℕ) → feedOf f s .answer ≡ complete n → (1 ≤ n) × (n ≤ 66)
 unfolding feedOf later
-feed-few f [] n = nothing-complete
-feed-few f (b ∷ s) n =
-    feed-cases (λ r. r .answer ≡ complete n → n ≤ 66) f b s (λ quiet. feed-few (stepOf f b .framer) s n)
-    (λ loud. step-few f b n)
+feed-complete f [] n = nothing-complete
+feed-complete f (b ∷ s) n =
+    feed-cases (λ r. r .answer ≡ complete n → (1 ≤ n) × (n ≤ 66)) f b s
+    (λ quiet. feed-complete (stepOf f b .framer) s n) (λ loud. step-complete f b n)

@@ -10,7 +10,8 @@ use Rattle.framing.specs.Step.{nothingYet, complete, framerOf, start, st
 use Rattle.framing.specs.Feed.{isNothing, later, feedOf}
 use Rattle.framing.specs.Steps.{steps, BySteps, Alike}
 use Rattle.framing.specs.Framed.{allPlain, Reached, Framed, Finds, Drops}
-use Rattle.framing.proofs.StepsLaws.{by-steps}
+use Rattle.framing.proofs.StepLaws as step
+use Rattle.framing.proofs.StepsLaws as feed
 use Rattle.framing.proofs.PartsLaws.{feed-append, feed-append-stop}
 use Rattle.framing.proofs.FramedLaws.{reached-start, reached-steps, reached-feed, framed-feed}
 use Rattle.framing.proofs.AlikeLaws.{alike-stx}
@@ -19,7 +20,7 @@ use Rattle.framing.proofs.FoundLaws as found
 -- the bytes taken are single steps, of which only the last can end a string, and the feed stops nowhere else than at
 -- the limit, at the slice's end, or just after a string
 pub feed-by-steps : (f : Framer) (s : List ℕ) (limit : ℕ) → BySteps f s limit (feedOf f (take limit s))
-feed-by-steps = by-steps
+feed-by-steps = feed.by-steps
 
 -- how reads cut the input does not matter: a part that ends no string, and then the rest, are fed like the whole
 pub feed-parts : (f : Framer) (s t : List ℕ) → feedOf f s .answer ≡ nothingYet
@@ -56,6 +57,14 @@ pub complete-string : (p s : List ℕ) (limit : ℕ) (f : Framer) → Reached p 
     → feedOf f (take limit s) .answer ≡ complete n
     → Framed (p ++ take (feedOf f (take limit s) .taken) s) (feedOf f (take limit s) .framer) n
 complete-string = framed-feed
+
+-- a complete string has 1 to 66 bytes, from any state, also one that no run of the feed gives
+pub step-complete : (f : Framer) (b n : ℕ) → stepOf f b .answer ≡ complete n → (1 ≤ n) × (n ≤ 66)
+step-complete = step.step-complete
+
+-- in a feed too
+pub feed-complete : (f : Framer) (s : List ℕ) (n : ℕ) → feedOf f s .answer ≡ complete n → (1 ≤ n) × (n ≤ 66)
+feed-complete = feed.feed-complete
 
 module _ (f : Framer) (body rest : List ℕ) (size : length (f .bytes) ≡ 66) (plain : allPlain body ≡ true) where
   -- every string of up to 66 bytes is found, from any state

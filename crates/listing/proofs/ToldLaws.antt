@@ -8,7 +8,7 @@ use lib.Seq.{take-length, length-take-le}
 use Rattle.framing.specs.Step.{FeedAnswer, nothingYet, complete, dropped}
 use Rattle.framing.specs.Feed.{Feeding, fed, feedOf}
 use Rattle.framing.specs.declared.Fed.{Fed}
-use Rattle.framing.proofs.StepsLaws.{feed-taken, feed-few}
+use Rattle.framing.proofs.StepsLaws.{feed-taken, feed-complete}
 use Rattle.listing.specs.declared.Listing.{Listing}
 use Rattle.listing_lines.specs.declared.Totals.{Totals}
 use Rattle.listing.specs.declared.entry.Line.{Line}
@@ -30,7 +30,7 @@ module _ (l : Listing) (s : List ℕ) (r : Fed) (e : fed r ≡ feedOf (l .framer
   pub told-within : length (r .framer .bytes) ≡ 66 → Within (fed r .answer) (r .framer .bytes)
   told-within size =
       within-few (fed r .answer) (r .framer .bytes) size
-      (λ n q. feed-few (l .framer) s n (sym (ap (λ (f : Feeding). f .answer) whole) ∙ q))
+      (λ n q. feed-complete (l .framer) s n (sym (ap (λ (f : Feeding). f .answer) whole) ∙ q) .1)
 
   told-agrees : Agrees l s (fed r)
   told-agrees = rw whole (agrees s l)

@@ -1,0 +1,41 @@
+-- The number of an event tells which it is, since a complete string has 1 to 66 bytes.
+use Prim.Native.Nat.{ℕ, _≤_}
+use native.Mathlib.Omega.{arith}
+use mathlib.Core.Path.{_≡_, refl, ap}
+use Rattle.framing.specs.Step.{FeedAnswer, nothingYet, complete, dropped}
+use Rattle.framing.proofs.StepLaws.{nothing-complete, dropped-complete}
+use Rattle.feed_state.specs.Feed.{eventNumber}
+use Rattle.feed_state.specs.Event.{Tells}
+
+nothing-dropped : {A : Type 0} → nothingYet ≡ dropped → A
+nothing-dropped e = let z : _≡_ {A = ℕ} 0 1 = cc in absurd (omega arith)
+
+dropped-nothing : {A : Type 0} → dropped ≡ nothingYet → A
+dropped-nothing e = let z : _≡_ {A = ℕ} 0 1 = cc in absurd (omega arith)
+
+complete-nothing : {A : Type 0} {m : ℕ} → complete m ≡ nothingYet → A
+complete-nothing e = let z : _≡_ {A = ℕ} 0 1 = cc in absurd (omega arith)
+
+complete-dropped : {A : Type 0} {m : ℕ} → complete m ≡ dropped → A
+complete-dropped e = let z : _≡_ {A = ℕ} 0 1 = cc in absurd (omega arith)
+
+pub number-tells : (a : FeedAnswer) → ((n : ℕ) → a ≡ complete n → (1 ≤ n) × (n ≤ 66)) → Tells (eventNumber a) a
+number-tells nothingYet size =
+    record {
+      nothing = (λ e. refl, λ e. refl);
+      string = λ n. (λ h. absurd (omega arith), nothing-complete);
+      overlong = (λ e. absurd (omega arith), nothing-dropped);
+    }
+number-tells (complete m) size =
+    let h = size m refl in
+    record {
+      nothing = (λ e. absurd (omega arith), complete-nothing);
+      string = λ n. (λ w. ap complete (w .2), λ e. let q : m ≡ n = cc in (omega arith, omega arith, q));
+      overlong = (λ e. absurd (omega arith), complete-dropped);
+    }
+number-tells dropped size =
+    record {
+      nothing = (λ e. absurd (omega arith), dropped-nothing);
+      string = λ n. (λ h. absurd (omega arith), dropped-complete);
+      overlong = (λ e. refl, λ e. refl);
+    }

@@ -23,7 +23,7 @@ Hands {A} say Accepts r = (a : A) × (Accepts a × (r ≡ say a))
 abbrev pub AcceptsAs : Kind → List ℕ → Reading → Type 0
 AcceptsAs Standard s r = Hands time (AcceptsStandard s) r
 AcceptsAs Pzf s r = Hands time (AcceptsPzf s) r
-AcceptsAs Gps s r = Hands timeAndPosition (ByFields AcceptsGps gpsFields s) r
+AcceptsAs Gps s r = Hands timeAndPosition (AcceptsGps s) r
 AcceptsAs Elv s r = Hands time (ByFields AcceptsElv elvFields s) r
 
 -- "then every field, offset and flag is the one those rules give" (demand 2): the reading

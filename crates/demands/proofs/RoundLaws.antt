@@ -12,6 +12,7 @@ use Rattle.clock_time.specs.Writing.{Outcome}
 use Rattle.clock_time.specs.declared.ClockTime.{ClockTime}
 use Rattle.calendar.specs.UnixTime.{isValid, instantOf, unixTime}
 use Rattle.layout.specs.Layout.{run}
+use Rattle.layout.proofs.AcceptLaws.{read-passes}
 use Rattle.meinberg_standard.specs.Standard.{writeStandard}
 use Rattle.meinberg_pzf.specs.Pzf.{writePzf}
 use Rattle.elv_dcf7000.specs.Elv.{writeElv}
@@ -19,11 +20,11 @@ use Rattle.meinberg_standard.proofs.Theorems as standard-string
 use Rattle.meinberg_pzf.proofs.Theorems as pzf-string
 use Rattle.elv_dcf7000.proofs.Theorems as elv-string
 use Rattle.meinberg_gps.proofs.Theorems as gps-string
-use Rattle.meinberg_gps.specs.Gps.{gpsFields, readGps}
+use Rattle.meinberg_gps.specs.Gps.{gpsFields, gps, readGps}
 use Rattle.gps_position.specs.Position.{Angle, latitude, longitude, angleSize, angleOf, positionOf}
 use Rattle.meinberg_gps.specs.declared.GpsTime.{GpsTime}
-use Rattle.gps_position.proofs.AlignedLaws.{aligned-plain, value-small}
-use Rattle.gps_position.proofs.AcceptLaws.{whole-exactly}
+use Rattle.gps_position.proofs.AlignedLaws.{value-small}
+use Rattle.gps_position.proofs.PositionLaws.{faultless, range-limit}
 use Rattle.signed.proofs.SignedLaws.{signed-size}
 use Rattle.dcf77.specs.Minute.{minuteFields, readMinute}
 use Rattle.dcf77.specs.declared.MinuteTime.{MinuteTime}
@@ -82,16 +83,15 @@ unfolding angleOf
 angle-within a s small most = size-within 2147483647 (angleOf a s) (rw signed-size (omega arith))
 
 pub position-holds : (s : List ℕ) (g : GpsTime) → readGps s ≡ accepted g → HoldsPosition (g .position)
-unfolding gpsFields positionOf
+unfolding readGps gps gpsFields positionOf
 position-holds s g h =
-    let r = gps-string.faithful .accepted-exactly s g .0 h in
-    let p = r .0 .position in
-    let plain-height = aligned-plain (run 60 4 s) (whole-exactly (run 60 4 s) .1 (p .height)) in
-    let small = value-small (run 60 4 s) plain-height in
+    let r = read-passes gps s g h in
+    let f = faultless s (r .0 .position) in
+    let small = value-small (run 60 4 s) (f .stand .height-plain) in
     rw (r .1)
     (record {
-      latitude = angle-within latitude s (lit≤ tt) (p .north .most);
-      longitude = angle-within longitude s (lit≤ tt) (p .east .most);
+      latitude = angle-within latitude s (lit≤ tt) (range-limit latitude s (f .latitude-range));
+      longitude = angle-within longitude s (lit≤ tt) (range-limit longitude s (f .longitude-range));
       height = omega arith;
     })
 

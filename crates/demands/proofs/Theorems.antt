@@ -28,7 +28,7 @@ use Rattle.meinberg_pzf.specs.Pzf.{pzf, readPzf, writePzf}
 use Rattle.meinberg_pzf.proofs.Theorems as pzfs
 use Rattle.gps_position.specs.Position.{positionFault, positionOf, readPosition}
 use Rattle.meinberg_gps.specs.Accepts.{AcceptsGps}
-use Rattle.meinberg_gps.specs.Gps.{gps, gpsFields, readGps, writeGps}
+use Rattle.meinberg_gps.specs.Gps.{gps, readGps, writeGps}
 use Rattle.meinberg_gps.specs.declared.GpsTime.{GpsTime}
 use Rattle.meinberg_gps.proofs.Theorems as gpss
 use Rattle.elv_dcf7000.specs.Accepts.{AcceptsElv}
@@ -311,7 +311,7 @@ standard-faithful = standards.faithful
 pub pzf-faithful : Faithful AcceptsPzf readPzf writePzf
 pzf-faithful = pzfs.faithful
 
-pub gps-faithful : Faithful (ByFields AcceptsGps gpsFields) readGps writeGps
+pub gps-faithful : Faithful AcceptsGps readGps writeGps
 gps-faithful = gpss.faithful
 
 pub elv-faithful : Faithful AcceptsElv readElv writeElv

@@ -3,6 +3,7 @@ use Prim.Native.Nat.{ℕ, zero, suc, _-_, _%_, _^_, _≤_, _<_}
 use native.Mathlib.Decide.{decLt}
 use native.Mathlib.Omega.{arith}
 use mathlib.Core.Path.{_≡_, refl}
+use mathlib.Core.Logic.{_⊎_, inl, inr, ⊎-elim}
 use mathlib.Core.Bool.{Bool, true, false, _&&_, _||_, and-false, or-false, false≢true}
 use mathlib.Core.List.{List, [], _∷_}
 use lib.Dec.{leb, eqb}
@@ -11,6 +12,7 @@ use borrow.Author.Tests.{eqb-true, leb-true, le-leb}
 use Rattle.clock_time.proofs.Tests.{both}
 use Rattle.decimal.specs.Decimal.{isDigit, value}
 use Rattle.decimal.proofs.DecimalLaws.{digit-range, Low, value-low}
+use Rattle.layout.proofs.PictureLaws.{or-holds}
 use Rattle.gps_position.specs.Aligned.{areDigits, rightAligned, digitsOrBlanks}
 
 -- ---- digits and blanks
@@ -55,19 +57,25 @@ pub data Aligned : List ℕ → Type 0 where
   blank : {b : ℕ} {s : List ℕ} → b ≡ 32 → Aligned s → Aligned (b ∷ s)
   high : {b c : ℕ} {s : List ℕ} → 49 ≤ b → b ≤ 57 → areDigits (c ∷ s) ≡ true → Aligned (b ∷ c ∷ s)
 
+-- two ways to go on from a byte that is not the last
+pub aligned-ways : (b c : ℕ) (s : List ℕ) → rightAligned (b ∷ c ∷ s) ≡ true
+    → ((b ≡ 32) × (rightAligned (c ∷ s) ≡ true)) ⊎ ((49 ≤ b) × (b ≤ 57) × (areDigits (c ∷ s) ≡ true))
+unfolding rightAligned
+aligned-ways b c s h =
+    ⊎-elim
+    (λ e. let w = both (eqb b 32) (rightAligned (c ∷ s)) e in inl (eqb-true b 32 (w .0), w .1))
+    (λ e.
+    let w = both (leb 49 b && leb b 57) (areDigits (c ∷ s)) e in
+    let v = both (leb 49 b) (leb b 57) (w .0) in
+    inr (leb-true 49 b (v .0), leb-true b 57 (v .1), w .1))
+    (or-holds (eqb b 32 && rightAligned (c ∷ s)) (leb 49 b && leb b 57 && areDigits (c ∷ s)) h)
+
 pub aligned-how : (s : List ℕ) → rightAligned s ≡ true → Aligned s
 unfolding rightAligned
 aligned-how [] h = absurd (false≢true h)
 aligned-how (b ∷ []) h = last h
-aligned-how (b ∷ c ∷ s) h = go (eqb b 32 && rightAligned (c ∷ s)) refl h (aligned-how (c ∷ s))
-  where
-    go : (t : Bool) → (eqb b 32 && rightAligned (c ∷ s)) ≡ t → (t || leb 49 b && leb b 57 && areDigits (c ∷ s)) ≡ true
-        → (rightAligned (c ∷ s) ≡ true → Aligned (c ∷ s)) → Aligned (b ∷ c ∷ s)
-    go true e h rest = let w = both (eqb b 32) (rightAligned (c ∷ s)) e in blank (eqb-true b 32 (w .0)) (rest (w .1))
-    go false e h rest =
-        let w = both (leb 49 b && leb b 57) (areDigits (c ∷ s)) h in
-        let v = both (leb 49 b) (leb b 57) (w .0) in
-        high (leb-true 49 b (v .0)) (leb-true b 57 (v .1)) (w .1)
+aligned-how (b ∷ c ∷ s) h =
+    ⊎-elim (λ w. blank (w .0) (aligned-how (c ∷ s) (w .1))) (λ w. high (w .0) (w .1) (w .2)) (aligned-ways b c s h)
 
 aligned-made : {s : List ℕ} → Aligned s → digitsOrBlanks s ≡ true
 unfolding digitsOrBlanks isDigit

@@ -1,4 +1,4 @@
 -- The definitions that the contracts and the main results cite.
 pub mod Aligned
 pub mod Position
-pub mod Accepts
+pub mod Rules

@@ -1,4 +1,4 @@
--- A GPS string passes every check exactly if the rules hold of it. Assumes nothing.
+-- The tests that only a GPS string has find no fault exactly if its rules in words hold.
 use Prim.Native.Nat.{ℕ}
 use native.Mathlib.Omega.{arith}
 use mathlib.Core.Path.{_≡_, refl}
@@ -9,17 +9,20 @@ use lib.Dec.{eqb}
 use lib.ListN.{getD}
 use borrow.Author.Tests.{eqb-true, eqb-false, eq-eqb, le-leb}
 use Rattle.layout.specs.Layout.{number}
-use Rattle.layout.proofs.AcceptLaws.{PassesText}
+use Rattle.layout.specs.Says.{twoDigitsAt}
+use Rattle.layout.proofs.SaysLaws.{two-digits}
 use Rattle.signed.specs.Signed.{signHolds}
 use Rattle.signed.proofs.SignedLaws.{SignRules, sign-exactly}
-use Rattle.gps_position.proofs.AcceptLaws.{position-exactly}
-use Rattle.meinberg_gps.specs.Gps.{offsetSize, offsetFault, leapMismatch, gpsFields, gps}
-use Rattle.meinberg_gps.specs.Accepts.{OffsetHolds, AcceptsGps}
+use Rattle.meinberg_gps.specs.Gps.{offsetSize, offsetFault, leapMismatch}
+use Rattle.meinberg_gps.specs.Says.{offsetMinutes, OffsetRules, LeapLetter}
 use Rattle.meinberg_gps.proofs.OffsetLaws.{faultless}
 use Rattle.meinberg_gps.proofs.BackLaws.{agree}
 
+pub offset-size : (s : List ℕ) → offsetSize s ≡ offsetMinutes s
+offset-size s = omega (arith, two-digits s 25, two-digits s 28)
+
 -- an offset has no fault exactly if its rules hold
-pub offset-exactly : (s : List ℕ) → (offsetFault s ≡ false) ↔ OffsetHolds s
+pub offset-exactly : (s : List ℕ) → (offsetFault s ≡ false) ↔ OffsetRules s
 unfolding offsetFault
 offset-exactly s = (
   λ h.
@@ -28,17 +31,18 @@ offset-exactly s = (
       record {
         sign = r .sign;
         most = r .most;
-        minutes = f .minutes;
-        minusZero = λ minus hours minutes. r .zero (omega (arith, hours, minutes)) minus;
+        minutes = rw (two-digits s 28) at (f .minutes);
+        minus-zero = λ minus none. r .zero none minus;
       },
-  λ h.
-      let zero : offsetSize s ≡ 0 → getD s 24 0 ≡ 45 → ⊥ =
-      λ e minus. h .minusZero minus (omega (arith, e)) (omega (arith, e)) in
-      simp (le-leb (number 2 28 s) 59 (h .minutes), signs .1 (record { sign = h .sign; most = h .most; zero = zero })),
+  λ r. simp (
+    le-leb (number 2 28 s) 59 (rw (two-digits s 28) (r .minutes)),
+    signs .1 (record { sign = r .sign; most = r .most; zero = λ none minus. r .minus-zero minus none }),
+  ),
 )
   where
-    signs : (signHolds 43 45 840 (getD s 24 0) (offsetSize s) ≡ true) ↔ SignRules 43 45 840 (getD s 24 0) (offsetSize s)
-    signs = sign-exactly 43 45 840 (getD s 24 0) (offsetSize s)
+    signs : (signHolds 43 45 840 (getD s 24 0) (offsetSize s) ≡ true)
+        ↔ SignRules 43 45 840 (getD s 24 0) (offsetMinutes s)
+    signs = rw (offset-size s) (sign-exactly 43 45 840 (getD s 24 0) (offsetMinutes s))
 
 -- two tests agree exactly if what they test does
 same-tests : (a b c d : ℕ) → (not (Bool·beq (eqb a b) (eqb c d)) ≡ false) ↔ ((a ≡ b) ↔ (c ≡ d))
@@ -56,27 +60,6 @@ same-tests a b c d = (
     go h false true e f = absurd (eqb-false a b e (h .1 (eqb-true c d f)))
 
 -- the letter for second 60 stands where it must exactly if the test finds no fault
-pub leap-exactly : (s : List ℕ) → (leapMismatch s ≡ false) ↔ ((getD s 38 0 ≡ 76) ↔ (number 2 20 s ≡ 60))
+pub leap-exactly : (s : List ℕ) → (leapMismatch s ≡ false) ↔ LeapLetter s
 unfolding leapMismatch
-leap-exactly s = same-tests (getD s 38 0) 76 (number 2 20 s) 60
-
--- a GPS string passes exactly if its rules hold
-pub gps-exactly : (s : List ℕ) → AcceptsGps s ↔ PassesText gps s
-unfolding gps gpsFields
-gps-exactly s = (
-  λ r.
-      record {
-        clock = r .clock;
-        flags = refl;
-        offset = offset-exactly s .1 (r .offset);
-        position = position-exactly s .1 (r .position);
-        agrees = leap-exactly s .1 (r .leap);
-      },
-  λ p.
-      record {
-        clock = p .clock;
-        offset = offset-exactly s .0 (p .offset);
-        position = position-exactly s .0 (p .position);
-        leap = leap-exactly s .0 (p .agrees);
-      },
-)
+leap-exactly s = rw (two-digits s 20) (same-tests (getD s 38 0) 76 (twoDigitsAt s 20) 60)

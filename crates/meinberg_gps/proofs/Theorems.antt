@@ -1,4 +1,4 @@
--- The main results of the GPS string. Assumes nothing.
+-- The main results of the GPS string.
 use Prim.Native.Nat.{ℕ}
 use mathlib.Core.Path.{_≡_, refl}
 use mathlib.Core.Logic.{_↔_}
@@ -7,7 +7,7 @@ use mathlib.Core.List.{List}
 use lib.ListN.{length}
 use Rattle.clock_time.specs.Errors.{accepted, refused}
 use Rattle.clock_time.specs.Order.{Gives}
-use Rattle.clock_time.specs.Faithful.{Faithful, ByFields}
+use Rattle.clock_time.specs.Faithful.{Faithful}
 use Rattle.calendar.specs.UnixTime.{isValid}
 use Rattle.calendar.specs.Rules.{ReadingRules}
 use Rattle.layout.specs.Picture.{AsDrawn}
@@ -19,29 +19,30 @@ use Rattle.meinberg_gps.specs.Accepts.{AcceptsGps}
 use Rattle.meinberg_gps.specs.Says.{gpsPicture, RulesGps, SaysGps}
 use Rattle.meinberg_gps.specs.Lines.{gpsLines}
 use Rattle.meinberg_gps.specs.declared.GpsTime.{GpsTime}
-use Rattle.meinberg_gps.proofs.AcceptLaws.{gps-exactly}
 use Rattle.meinberg_gps.proofs.BackLaws.{gps-back, sameGps-refl, sameGps-true}
 use Rattle.meinberg_gps.proofs.SaysLaws.{in-words}
 use Rattle.meinberg_gps.proofs.GpsLaws.{gpsCarries, decides}
 
 -- demand 2: acceptance, the fields read, and what is written
-pub faithful : Faithful (ByFields AcceptsGps gpsFields) readGps writeGps
+pub faithful : Faithful AcceptsGps readGps writeGps
 unfolding readGps writeGps gps
-faithful =
-    text.faithful gps (ByFields AcceptsGps gpsFields) (text.accepted-exactly gps AcceptsGps gps-exactly) gps-back
-    sameGps-refl sameGps-true
+faithful = text.faithful gps AcceptsGps (text.exactly in-words) gps-back sameGps-refl sameGps-true
 
--- its first sentence in words
+-- its first sentence by itself
 pub read-gps-exactly : (s : List ℕ) (g : GpsTime)
     → (readGps s ≡ accepted g) ↔ (AsDrawn gpsPicture s × SaysGps s g × RulesGps s × ReadingRules (g .time))
-unfolding readGps gps
-read-gps-exactly = text.exactly in-words
+read-gps-exactly = faithful .accepted-exactly
 
 -- and refused with a number exactly if its line of the table in words holds and no earlier one does: "Each number is
 -- given when its line holds and no earlier one does, and never otherwise." (01, Refusal numbers)
 pub refused-gps-exactly : (s : List ℕ) (n : ℕ) → (readGps s ≡ refused n) ↔ Gives (gpsLines s) n
 unfolding readGps gps
 refused-gps-exactly = text.refused-exactly in-words
+
+-- a string that is as drawn and keeps the rules of its own says one clock time and position and no other
+pub says-one : (s : List ℕ) → AsDrawn gpsPicture s → RulesGps s
+    → (g : GpsTime) × (SaysGps s g × ((h : GpsTime) → SaysGps s h → h ≡ g))
+says-one = text.says-one in-words
 
 -- "GPS, 66 bytes." (01, Meinberg and ELV strings)
 pub long : length gpsPicture ≡ 66

@@ -15,9 +15,12 @@ fn utc_minute(hour: u8, minute: u8, offset: i16) -> u32
 pub fn time_exists(hour: u8, minute: u8, second: u8, offset: i16) -> bool
     ensures { λ r. ⌜ r ≡ timeExists hour minute second offset ⌝ }
 {
-    if second < 60 {
-        return (hour < 24) & (minute < 60);
+    if (hour < 24) & (minute < 60) {
+        if second < 60 {
+            return true;
+        }
+        let utc = utc_minute(hour, minute, offset);
+        return (second == 60) & (utc == 1439);
     }
-    let utc = utc_minute(hour, minute, offset);
-    (hour < 24) & (minute < 60) & (second == 60) & (utc == 1439)
+    false
 }

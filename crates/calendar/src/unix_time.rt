@@ -26,10 +26,14 @@ pub fn offset_in_range(offset: i16) -> bool
 pub fn is_valid(t: ClockTime) -> bool
     ensures { λ r. ⌜ r ≡ isValid t ⌝ }
 {
-    let date = gregorian::is_known_date(t.year, t.month, t.day);
-    let time = time_of_day::time_exists(t.hour, t.minute, t.second, t.utc_offset);
-    let offset = offset_in_range(t.utc_offset);
-    date & time & (1 <= t.weekday) & (t.weekday <= 7) & offset
+    if gregorian::is_known_date(t.year, t.month, t.day) {
+        if time_of_day::time_exists(t.hour, t.minute, t.second, t.utc_offset) {
+            let offset = offset_in_range(t.utc_offset);
+            return (1 <= t.weekday) & (t.weekday <= 7) & offset;
+        }
+        return false;
+    }
+    false
 }
 
 fn to_utc(local: u64, offset: i16) -> i64

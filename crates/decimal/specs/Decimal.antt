@@ -32,6 +32,10 @@ unfoldable pub digits : ℕ → ℕ → List ℕ
 digits zero n = []
 digits (suc k) n = digits k (n / 10) ++ ((48 + n % 10) ∷ [])
 
+-- the last two decimal digits of n as two bytes side by side in one number, the first digit the lower byte
+abbrev pub digitPair : ℕ → ℕ
+digitPair n = 48 + n / 10 % 10 + 256 * (48 + n % 10)
+
 -- an answer, with the place of the byte that offends, 0 where none does
 pub record Placed : Type 0 where
   pub answer : Answer ℕ

@@ -6,7 +6,7 @@ ghost use mathlib.Core.List.{_++_};
 ghost use Prim.Native.Nat.{_≤_, _^_};
 ghost use lib.ListN.{length, drop};
 ghost use Rattle.clock_time.specs.Writing.{outcome};
-ghost use Rattle.decimal.specs.Decimal.{isDigit, digits, readDigits, digitsAnswer, writeDigits};
+ghost use Rattle.decimal.specs.Decimal.{isDigit, digits, digitPair, readDigits, digitsAnswer, writeDigits};
 
 // The number that a run of digits stands for; or the place of the first byte that is no digit; or more than 19 bytes.
 pub enum DigitsRead {
@@ -86,4 +86,12 @@ pub fn write_digits(number: u64, count: usize, out: &mut [u8]) -> WriteAnswer
     }
     fill_digits(number, count, out);
     WriteAnswer::Written(count)
+}
+
+// The last two digits of a number as two bytes side by side in one number, which the compiler stores at once.
+pub fn pair(v: u32) -> u32
+    ensures { λ r. ⌜ r ≡ digitPair v ⌝ }
+{
+    let w = v % 100;
+    256 * w - 2559 * (w / 10) + 12336
 }

@@ -15,27 +15,34 @@ fn flag_sum(summer: bool, change: bool, unsynchronised: bool) -> u8
 fn line_with(t: ClockTime, flags: u8) -> [u8; 21]
     ensures { λ r. ⌜ r ≡ lineWith t flags ⌝ }
 {
+    let year = decimal::pair(t.year as u32);
+    let month = decimal::pair(t.month as u32);
+    let day = decimal::pair(t.day as u32);
+    let hour = decimal::pair(t.hour as u32);
+    let minute = decimal::pair(t.minute as u32);
+    let second = decimal::pair(t.second as u32);
+    let number = decimal::pair(flags as u32);
     [
-        (48 + t.year / 10 % 10) as u8,
-        (48 + t.year % 10) as u8,
+        (year % 256) as u8,
+        (year / 256) as u8,
         b'-',
-        48 + t.month / 10 % 10,
-        48 + t.month % 10,
+        (month % 256) as u8,
+        (month / 256) as u8,
         b'-',
-        48 + t.day / 10 % 10,
-        48 + t.day % 10,
+        (day % 256) as u8,
+        (day / 256) as u8,
         b'-',
-        48 + t.hour / 10 % 10,
-        48 + t.hour % 10,
+        (hour % 256) as u8,
+        (hour / 256) as u8,
         b'-',
-        48 + t.minute / 10 % 10,
-        48 + t.minute % 10,
+        (minute % 256) as u8,
+        (minute / 256) as u8,
         b'-',
-        48 + t.second / 10 % 10,
-        48 + t.second % 10,
+        (second % 256) as u8,
+        (second / 256) as u8,
         b'-',
-        48 + flags / 10 % 10,
-        48 + flags % 10,
+        (number % 256) as u8,
+        (number / 256) as u8,
         13,
     ]
 }

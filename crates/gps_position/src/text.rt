@@ -28,13 +28,13 @@ pub(crate) fn aligned_text(n: u32) -> [u8; 4]
 fn decimals(n: u32) -> [u8; 4]
     ensures { λ r. ⌜ r ≡ digits 4 n ⌝ }
 {
-    let tens = n / 10;
-    let hundreds = tens / 10;
+    let high = decimal::pair(n / 10 / 10);
+    let low = decimal::pair(n);
     [
-        48 + (hundreds / 10 % 10) as u8,
-        48 + (hundreds % 10) as u8,
-        48 + (tens % 10) as u8,
-        48 + (n % 10) as u8,
+        (high % 256) as u8,
+        (high / 256) as u8,
+        (low % 256) as u8,
+        (low / 256) as u8,
     ]
 }
 

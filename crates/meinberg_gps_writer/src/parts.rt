@@ -10,14 +10,14 @@ pub fn offset_text(offset: i16) -> OffsetText
     ensures { λ r. ⌜ r ≡ offsetText offset ⌝ }
 {
     let size = signed::size(offset as i32);
-    let hours = size / 60;
-    let minutes = size % 60;
+    let hours = decimal::pair(size / 60);
+    let minutes = decimal::pair(size % 60);
     [
         signed::sign_byte(b'+', b'-', offset as i32),
-        48 + (hours / 10 % 10) as u8,
-        48 + (hours % 10) as u8,
+        (hours % 256) as u8,
+        (hours / 256) as u8,
         b':',
-        48 + (minutes / 10 % 10) as u8,
-        48 + (minutes % 10) as u8,
+        (minutes % 256) as u8,
+        (minutes / 256) as u8,
     ]
 }

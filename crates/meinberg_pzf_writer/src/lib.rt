@@ -9,29 +9,35 @@ ghost use Rattle.meinberg_pzf.specs.Pzf.{lineWith, pzfText, pzfCarries, writePz
 fn line_with(t: ClockTime, utc: u8, u: u8, v: u8, x: u8, y: u8, z: u8, a: u8) -> [u8; 32]
     ensures { λ r. ⌜ r ≡ lineWith t utc u v x y z a ⌝ }
 {
+    let year = decimal::pair(t.year as u32);
+    let month = decimal::pair(t.month as u32);
+    let day = decimal::pair(t.day as u32);
+    let hour = decimal::pair(t.hour as u32);
+    let minute = decimal::pair(t.minute as u32);
+    let second = decimal::pair(t.second as u32);
     [
         2,
-        48 + t.day / 10 % 10,
-        48 + t.day % 10,
+        (day % 256) as u8,
+        (day / 256) as u8,
         b'.',
-        48 + t.month / 10 % 10,
-        48 + t.month % 10,
+        (month % 256) as u8,
+        (month / 256) as u8,
         b'.',
-        (48 + t.year / 10 % 10) as u8,
-        (48 + t.year % 10) as u8,
+        (year % 256) as u8,
+        (year / 256) as u8,
         b';',
         b' ',
         48 + t.weekday % 10,
         b';',
         b' ',
-        48 + t.hour / 10 % 10,
-        48 + t.hour % 10,
+        (hour % 256) as u8,
+        (hour / 256) as u8,
         b':',
-        48 + t.minute / 10 % 10,
-        48 + t.minute % 10,
+        (minute % 256) as u8,
+        (minute / 256) as u8,
         b':',
-        48 + t.second / 10 % 10,
-        48 + t.second % 10,
+        (second % 256) as u8,
+        (second / 256) as u8,
         b';',
         b' ',
         utc,

@@ -4,6 +4,7 @@ use mir.Syntax.{w32}
 use mir.Facts.{toZ-ofZ, sfits-widen}
 use Rattle.calendar.proofs.SignedLaws.{widened}
 use Rattle.decimal.specs.Decimal.{digits}
+use Rattle.decimal.proofs.PairLaws.{first-byte, second-byte}
 use Rattle.layout.specs.Ascii.{ascii}
 use Rattle.meinberg_gps.specs.Gps.{offsetText}
 use Rattle.meinberg_gps_writer.proofs.parts.offset_text.Statement.{statement}
@@ -13,19 +14,22 @@ cast-size : tie.Need-cast-size
 cast-size c = rw (toZ-ofZ (c .fits .offset)) (sfits-widen tt (c .fits .offset))
 
 cast-sign-byte : tie.Need-cast-sign-byte
-cast-sign-byte c = rw (toZ-ofZ (c .before .fits .offset)) (sfits-widen tt (c .before .fits .offset))
+cast-sign-byte c =
+    let f = c .before .before .before .fits .offset in
+    rw (toZ-ofZ f) (sfits-widen tt f)
 
 returns : tie.Need-returns
 unfolding offsetText digits ascii
 returns c =
-    let f = c .before .before .fits .offset in
-    let size = rw (widened w32 tt f) at (c .before .size .ensures) in
+    let minutes = c .before in
+    let hours = minutes .before in
+    let f = hours .before .before .fits .offset in
+    let size = rw (widened w32 tt f) at (hours .before .size .ensures) in
     let letter = rw (widened w32 tt f) at (c .sign-byte .ensures) in
-    simp (letter, size)
+    simp (letter, minutes .pair2 .ensures, hours .pair .ensures, size, first-byte, second-byte)
 
 pub offset-text-spec : {M : Type 1} → statement M
 offset-text-spec =
     tie.close
-    (tie.spec cast-size (λ c κs. search needs) cast-sign-byte (λ c κs. search needs) (λ c. search needs)
-    (λ c. search needs) (λ c. search needs) (λ c. search needs) (λ c. search needs) (λ c. search needs)
-    (λ c. search needs) (λ c. search needs) returns)
+    (tie.spec cast-size (λ c κs. search needs) (λ c κs. search needs) (λ c κs. search needs) cast-sign-byte
+    (λ c κs. search needs) (λ c. search needs) (λ c. search needs) (λ c. search needs) (λ c. search needs) returns)

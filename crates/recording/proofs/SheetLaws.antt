@@ -1,17 +1,18 @@
--- The rule gives each place the number that it has in words.
+-- The rule gives each place the number that it has in words, and a sheet is right if it is so in words.
 use Prim.Native.Nat.{ℕ}
 use native.Mathlib.Decide.{ℕ-discrete}
 use mathlib.Core.Path.{_≡_, refl, sym, _∙_}
 use mathlib.Core.Logic.{_↔_}
 use mathlib.Core.List.{List}
 use mathlib.Core.Option.{Option, none, some}
-use lib.ListN.{getD}
+use lib.ListN.{length, getD}
 use Rattle.run_number.specs.Number.{runNumber}
 use Rattle.run_number.proofs.Theorems.{run-number-exactly}
 use Rattle.recording.specs.Gaps.{gapBefore}
 use Rattle.recording.specs.Rule.{runBetween}
 use Rattle.recording.specs.Recording.{rule}
-use Rattle.recording.specs.SheetNumber.{SheetNumber}
+use Rattle.recording.specs.Outcomes.{Right}
+use Rattle.recording.specs.SheetNumber.{SheetNumber, RightFor}
 use Rattle.recording.proofs.GapLaws.{before-none, before-is-nearest, nearest-is-before, none-before}
 use Rattle.recording.proofs.RuleLaws.{rule-none, rule-gap}
 
@@ -41,3 +42,9 @@ module _ (m : List ℕ) (p n : ℕ) where
 
   pub rule-exactly : (rule m p ≡ n) ↔ SheetNumber m p n
   rule-exactly = (rule-says, says-rule)
+
+pub right-exactly : (m o : List ℕ) → Right (rule m) (length m) o ↔ RightFor m o
+right-exactly m o = (
+  λ r. record { long = r .long; each = λ i h. rule-exactly m i _ .0 (sym (r .each i h)) },
+  λ r. record { long = r .long; each = λ i h. sym (rule-exactly m i _ .1 (r .each i h)) },
+)

@@ -10,13 +10,13 @@ use Rattle.clock_time.specs.declared.Error.{Error}
 use Rattle.recording.specs.declared.FillAnswer.{FillAnswer}
 use Rattle.recording.specs.declared.CorrectAnswer.{CorrectAnswer}
 use Rattle.recording.specs.Gaps.{FirstGapAfter}
-use Rattle.recording.specs.Outcomes.{Right, numbers, differences}
+use Rattle.recording.specs.Outcomes.{numbers, differences}
 use Rattle.recording.specs.Recording.{rule, outcomeAt, filling, fillOutcomes, correction, correctMark}
-use Rattle.recording.specs.SheetNumber.{SheetNumber}
+use Rattle.recording.specs.SheetNumber.{SheetNumber, RightFor}
 use Rattle.recording.specs.Demand.{Corrected}
 use Rattle.recording.proofs.GapLaws.{first-set}
 use Rattle.recording.proofs.OutcomeLaws.{right-numbers}
-use Rattle.recording.proofs.SheetLaws.{rule-exactly}
+use Rattle.recording.proofs.SheetLaws.{rule-exactly, right-exactly}
 use Rattle.recording.proofs.RecordingLaws.{outcome-fits, fill-kept, fill-right, fill-fits}
 use Rattle.recording.proofs.RecordingLaws.{correct-kept, correct-fits}
 use Rattle.recording.proofs.DemandLaws.{correct-corrected}
@@ -32,14 +32,16 @@ module _ (marks outcomes : List ℕ) (place mark : ℕ) (marks′ outcomes′ : 
   -- "So if the sheet was right for the old tape, it is right at every place for the new one." (demand 3)
   pub right-stays-right : (count : ℕ)
       → correction (CorrectAnswer.Corrected count) marks′ outcomes′ ≡ correctMark marks outcomes place mark
-      → Right (rule marks) (length marks) outcomes → Right (rule marks′) (length marks′) outcomes′
+      → RightFor marks outcomes → RightFor marks′ outcomes′
   right-stays-right count h = demand-3 count h .right
 
   -- and then it is the sheet that filling makes of the new tape
   pub correct-is-fill : (count : ℕ)
       → correction (CorrectAnswer.Corrected count) marks′ outcomes′ ≡ correctMark marks outcomes place mark
-      → Right (rule marks) (length marks) outcomes → outcomes′ ≡ numbers (rule marks′) (length marks′)
-  correct-is-fill count h r = right-numbers (rule marks′) (length marks′) outcomes′ (right-stays-right count h r)
+      → RightFor marks outcomes → outcomes′ ≡ numbers (rule marks′) (length marks′)
+  correct-is-fill count h r =
+      right-numbers (rule marks′) (length marks′) outcomes′
+      (right-exactly marks′ outcomes′ .1 (right-stays-right count h r))
 
   -- "The count returned is exactly how many places of the sheet hold another number than before." (demand 3)
   pub count-exact : (count : ℕ)
@@ -67,14 +69,14 @@ same-first-gap marks place mark gap = first-set marks place mark gap
 -- ---- the outcomes of a recording
 module _ (marks outcomes outcomes′ : List ℕ) where
   pub filled-right : filling FillAnswer.Filled outcomes′ ≡ fillOutcomes marks outcomes
-      → Right (rule marks) (length marks) outcomes′
-  filled-right h = fill-right marks outcomes outcomes′ h
+      → RightFor marks outcomes′
+  filled-right h = right-exactly marks outcomes′ .0 (fill-right marks outcomes outcomes′ h)
 
   -- every place holds what `outcome_at` answers there
   pub filled-outcome-at : filling FillAnswer.Filled outcomes′ ≡ fillOutcomes marks outcomes
       → (i : ℕ) → i < length marks → outcomeAt marks i ≡ accepted (getD outcomes′ i 0)
   filled-outcome-at h i l =
-      rw (filled-right h .each i l) (outcome-fits marks i (fill-fits marks outcomes outcomes′ h) l)
+      rw (fill-right marks outcomes outcomes′ h .each i l) (outcome-fits marks i (fill-fits marks outcomes outcomes′ h) l)
 
   pub refused-filling-changes-nothing : (e : Error)
       → filling (FillAnswer.Refused e) outcomes′ ≡ fillOutcomes marks outcomes → outcomes′ ≡ outcomes

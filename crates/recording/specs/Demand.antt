@@ -5,8 +5,8 @@ use mathlib.Core.Path.{_≡_}
 use mathlib.Core.List.{List}
 use lib.ListN.{length, getD}
 use Rattle.recording.specs.Gaps.{FirstGapAfter}
-use Rattle.recording.specs.Outcomes.{Right, differences}
-use Rattle.recording.specs.Recording.{rule}
+use Rattle.recording.specs.Outcomes.{differences}
+use Rattle.recording.specs.SheetNumber.{SheetNumber, RightFor}
 
 -- `marks` and `outcomes` were lent, `place` and `mark` named; `marks′` and `outcomes′` are left, `count` is returned
 pub record Corrected
@@ -17,13 +17,13 @@ pub record Corrected
   pub mark-elsewhere : (i : ℕ) → (i ≡ place → ⊥) → getD marks′ i 0 ≡ getD marks i 0
   -- "The sheet's number at that place, and at the first gap after it if there is one, is the one that document 01's
   -- rule gives for the corrected tape, whatever the sheet held before."
-  pub outcome-here : getD outcomes′ place 0 ≡ rule marks′ place
-  pub outcome-first-gap : (g : ℕ) → FirstGapAfter marks′ place g → getD outcomes′ g 0 ≡ rule marks′ g
+  pub outcome-here : SheetNumber marks′ place (getD outcomes′ place 0)
+  pub outcome-first-gap : (g : ℕ) → FirstGapAfter marks′ place g → SheetNumber marks′ g (getD outcomes′ g 0)
   -- "Every other number on the sheet is unchanged."
   pub outcomes-long : length outcomes′ ≡ length outcomes
   pub outcome-elsewhere : (i : ℕ) → (i ≡ place → ⊥) → (FirstGapAfter marks′ place i → ⊥)
       → getD outcomes′ i 0 ≡ getD outcomes i 0
   -- "So if the sheet was right for the old tape, it is right at every place for the new one."
-  pub right : Right (rule marks) (length marks) outcomes → Right (rule marks′) (length marks′) outcomes′
+  pub right : RightFor marks outcomes → RightFor marks′ outcomes′
   -- "The count returned is exactly how many places of the sheet hold another number than before."
   pub counted : count ≡ differences outcomes outcomes′

@@ -3,5 +3,5 @@ pub mod Gaps
 pub mod Outcomes
 pub mod Rule
 pub mod Recording
-pub mod Demand
 pub mod SheetNumber
+pub mod Demand

@@ -2,7 +2,7 @@
 use Prim.Native.Nat.{ℕ, _<_}
 use mathlib.Core.Path.{_≡_}
 use mathlib.Core.List.{List}
-use lib.ListN.{getD}
+use lib.ListN.{length, getD}
 use Rattle.run_number.specs.RunNumber.{RunNumber}
 use Rattle.recording.specs.Gaps.{NearestGapBefore}
 use Rattle.recording.specs.Rule.{runBetween}
@@ -21,3 +21,9 @@ pub record SheetNumber (marks : List ℕ) (place n : ℕ) : Type 0 where
   -- nearest earlier gap and this one
   pub later-gap : IsGap marks place → (gap : ℕ) → NearestGapBefore marks place gap
       → RunNumber (runBetween marks gap place) n
+
+-- "A sheet is right for a tape where the two are equally long and every place holds the number that this rule gives
+-- there." (01, Tape and sheet)
+pub record RightFor (marks outcomes : List ℕ) : Type 0 where
+  pub long : length outcomes ≡ length marks
+  pub each : (i : ℕ) → i < length marks → SheetNumber marks i (getD outcomes i 0)

@@ -6,8 +6,8 @@ use native.Mathlib.Omega.{arith}
 use mathlib.Core.Path.{_≡_, refl, sym}
 use mathlib.Core.Logic.{_↔_, _⊎_, inl, inr}
 use mathlib.Core.Bool.{Bool, true, false, not, _&&_, _||_, false≢true}
-use lib.Dec.{leb, eqb}
-use borrow.Author.Tests.{eqb-true, eq-eqb, leb-true, le-leb, lt-leb, not-false}
+use lib.Dec.{leb, ltb, eqb}
+use borrow.Author.Tests.{eqb-true, eq-eqb, leb-true, le-leb, lt-leb, ltb-true, lt-ltb, not-false}
 
 -- ---- single tests
 pub eq-exactly : (m n : ℕ) → (eqb m n ≡ true) ↔ (m ≡ n)
@@ -15,6 +15,9 @@ eq-exactly m n = (eqb-true m n, eq-eqb m n)
 
 pub le-exactly : (m n : ℕ) → (leb m n ≡ true) ↔ (m ≤ n)
 le-exactly m n = (leb-true m n, le-leb m n)
+
+pub lt-exactly : (m n : ℕ) → (ltb m n ≡ true) ↔ (m < n)
+lt-exactly m n = (ltb-true m n, lt-ltb m n)
 
 pub above-exactly : (m n : ℕ) → (not (leb m n) ≡ true) ↔ (n < m)
 above-exactly m n = (go (leb m n) (le-leb m n), λ h. simp (lt-leb m n h))

@@ -13,7 +13,7 @@ use Rattle.clock_time.proofs.ExactLaws.{passes-exactly}
 use Rattle.gregorian.proofs.RulesLaws.{date-exactly}
 use Rattle.calendar.specs.UnixTime.{isValid}
 use Rattle.calendar.specs.Rules.{ReadingRules}
-use Rattle.calendar.proofs.RulesLaws.{time-exactly}
+use Rattle.calendar.proofs.RulesLaws.{time-exactly, weekday-exactly}
 use Rattle.calendar.proofs.ValidLaws.{checked-valid, zone-in-range}
 use Rattle.dcf77.specs.Marks.{long, twoDigits}
 use Rattle.dcf77.specs.Minute.{announced, minuteFields, minuteChecks, readMinute}
@@ -21,7 +21,7 @@ use Rattle.dcf77.specs.Says.{RunRules, LeapRule}
 use Rattle.dcf77.specs.Accepts.{AcceptsMinute}
 use Rattle.dcf77.specs.declared.MinuteTime.{MinuteTime}
 use Rattle.dcf77.proofs.SaysLaws.{said-announced, fields-say, said-fields}
-use Rattle.dcf77.proofs.LinesLaws.{run-rules, rules-run, weekday-exactly, leap-exactly}
+use Rattle.dcf77.proofs.LinesLaws.{run-rules, rules-run, leap-exactly}
 
 -- the rules, of the time that the reader takes from the marks
 abbrev pub KeepsRules : List ℕ → Type 0

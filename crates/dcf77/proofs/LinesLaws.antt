@@ -19,7 +19,7 @@ use Rattle.gregorian.specs.Date.{sum}
 use Rattle.gregorian.specs.Rules.{GregorianDate}
 use Rattle.gregorian.proofs.RulesLaws.{date-exactly}
 use Rattle.calendar.specs.Rules.{TimeOfDay}
-use Rattle.calendar.proofs.RulesLaws.{time-exactly}
+use Rattle.calendar.proofs.RulesLaws.{time-exactly, weekday-exactly}
 use Rattle.dcf77.specs.Marks.{long, short, allSure, binary, longs, isOdd}
 use Rattle.dcf77.specs.Minute.{announced, minuteChecks}
 use Rattle.dcf77.specs.Says.{Short, Long, fourMarks, RunRules, Announces}
@@ -45,10 +45,6 @@ unsure-exactly m = (unsure m, λ u. not-exactly (allSure m) (sure-small m, small
   where
     none : Unsure m → ((i : ℕ) → getD m i 0 ≤ 1) → ⊥
     none u s = omega (arith, s (u .0), u .2, u .3)
-
--- ---- 7
-pub weekday-exactly : (n : ℕ) → ((leb 1 n && leb n 7) ≡ true) ↔ ((1 ≤ n) × (n ≤ 7))
-weekday-exactly n = both-exactly _ _ (le-exactly _ _) (le-exactly _ _)
 
 -- ---- the others
 -- four marks from a place on are no more than 9

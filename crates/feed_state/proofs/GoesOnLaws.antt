@@ -1,11 +1,12 @@
 -- Calls of the feed go on where the last one stopped. Assumes nothing.
 use Prim.Native.Nat.{ℕ, _≤_}
 use native.Mathlib.Omega.{arith}
-use mathlib.Core.Path.{_≡_, refl}
+use mathlib.Core.Path.{_≡_, refl, _∙_}
 use mathlib.Core.List.{List, _++_}
-use lib.ListN.{length, take, drop, replicate}
-use lib.Seq.{length-take-le}
+use lib.ListN.{length, take, drop, replicate, length-append}
+use lib.Seq.{length-take-le, drop-at}
 use borrow.Author.Tests.{le-ltb}
+use Rattle.framing.specs.declared.Framer.{Framer}
 use Rattle.framing.specs.Step.{start}
 use Rattle.framing.specs.Feed.{feedOf}
 use Rattle.feed_state.specs.Feed.{modeOf, framerIn, stateBytes, eventNumber, feedMemory, feedInto}
@@ -39,3 +40,15 @@ feed-goes-on state taken event s limit room =
       refl,
       refl,
     )
+
+state-long : (f : Framer) → length (f .bytes) ≡ 66 → length (stateBytes f) ≡ 68
+unfolding stateBytes
+state-long f h = length-append (f .bytes) _ ∙ rw h
+
+pub feed-rest : (state : List ℕ) (taken event : ℕ) (s : List ℕ) (limit : ℕ) → 68 ≤ length state
+    → drop 68 (feedInto (feedMemory state taken event) s limit .memory .state) ≡ drop 68 state
+feed-rest state taken event s limit room =
+    let r = feedOf (framerIn state) (take limit s) in
+    let whole = feed-whole (take limit s) (framerIn state) (state-whole state room) in
+    rw (feed-room state taken event s limit room)
+    (drop-at (stateBytes (r .framer)) (drop 68 state) 68 (state-long (r .framer) whole))

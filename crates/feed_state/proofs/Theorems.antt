@@ -2,7 +2,7 @@
 use Prim.Native.Nat.{ℕ, _≤_}
 use mathlib.Core.Path.{_≡_}
 use mathlib.Core.List.{List, _++_}
-use lib.ListN.{length, take, replicate}
+use lib.ListN.{length, take, drop, replicate}
 use Rattle.framing.specs.declared.Framer.{Framer}
 use Rattle.framing.specs.Step.{start}
 use Rattle.framing.specs.Feed.{feedOf}
@@ -29,6 +29,11 @@ pub feed-goes-on : (state : List ℕ) (taken event : ℕ) (s : List ℕ) (limit 
     × (after .taken ≡ feedOf (framerIn state) (take limit s) .taken)
     × (after .event ≡ eventNumber (feedOf (framerIn state) (take limit s) .answer))
 feed-goes-on = goes.feed-goes-on
+
+-- and bytes after the 68th stay
+pub feed-keeps-rest : (state : List ℕ) (taken event : ℕ) (s : List ℕ) (limit : ℕ) → 68 ≤ length state
+    → drop 68 (feedInto (feedMemory state taken event) s limit .memory .state) ≡ drop 68 state
+feed-keeps-rest = goes.feed-rest
 
 -- what the call leaves behind `event` tells C, from any state, what the last byte taken ended: 0 nothing, 1 to 66 a
 -- complete string of so many bytes, 255 an overlong one

@@ -14,7 +14,7 @@ use Rattle.layout.specs.Picture.{AsDrawn}
 use Rattle.layout.proofs.DecideLaws.{valid-answer, read-written}
 use Rattle.layout.proofs.Theorems as text
 use Rattle.gps_position.specs.Position.{positionCarried}
-use Rattle.meinberg_gps.specs.Gps.{gpsFields, gpsText, gps, readGps, writeGps}
+use Rattle.meinberg_gps.specs.Gps.{gpsText, gps, readGps, writeGps}
 use Rattle.meinberg_gps.specs.Accepts.{AcceptsGps}
 use Rattle.meinberg_gps.specs.Says.{gpsPicture, RulesGps, SaysGps}
 use Rattle.meinberg_gps.specs.Lines.{gpsLines}

@@ -1,8 +1,16 @@
--- The main results, and the laws that they cite.
+-- The three demands, and the laws that they cite.
 pub mod OrderLaws
+pub mod WriterLaws
+pub mod Checks
 pub mod EntryLaws
-pub mod ValidLaws
-pub mod RoundLaws
-pub mod RefusedLaws
-pub mod AcceptedLaws
-pub mod Theorems
+pub mod AgreeLaws
+pub mod ReaderLaws
+pub mod HeldLaws
+pub mod NumbersLaws
+pub mod InstantLaws
+pub mod NeverLaws
+pub mod SheetLaws
+pub mod StreamLaws
+pub mod Demand1
+pub mod Demand2
+pub mod Demand3

@@ -1,48 +1,106 @@
--- Answers in an order, for any lines of the table of refusals. Assumes nothing.
+-- Answers in an order, for any checks that agree with lines of the table of refusals in words.
 use Prim.Native.Nat.{ℕ, suc}
 use native.Mathlib.Omega.{arith}
 use mathlib.Core.Path.{_≡_, refl, sym, ap, _∙_}
-use mathlib.Core.Logic.{inl, inr}
-use mathlib.Core.Bool.{Bool, true, false, cond, not, _&&_}
+use mathlib.Core.Logic.{_↔_, inl, inr}
+use mathlib.Core.Bool.{Bool, true, false, cond, not, _&&_, true≢false, false≢true}
 use mathlib.Core.List.{List, [], _∷_, _++_, append-nil}
 use lib.Dec.{eqb}
 use borrow.Author.Tests.{eqb-false, not-true}
-use Rattle.clock_time.specs.Errors.{Answer, accepted, refused, Check, checked, FirstHolds, Passes}
-use Rattle.clock_time.specs.Exit.{Exit, leaves}
-use Rattle.clock_time.proofs.ErrorLaws.{apart, refused-first, first-refused, accepted-passes, passes-accepted}
-use Rattle.clock_time.proofs.Tests.{both}
+use Rattle.clock_time.specs.Errors.{Answer, accepted, refused, Check, given, checked}
+use Rattle.clock_time.specs.Exit.{Exit, exit, leaves}
+use Rattle.clock_time.specs.Order.{Line, numbersOf, Gives, NoneHolds}
 use Rattle.clock_time.specs.Called.{Called, statusOf, answered, left, counted, andThen, leaving}
-use Rattle.demands.specs.Ordered.{numbersOf, Ordered, Kept, Lent, FromC}
+use Rattle.clock_time.proofs.ErrorLaws.{apart, accepted-passes, passes-accepted}
+use Rattle.clock_time.proofs.OrderLaws.{Agree, refused-exactly, passes-none, none-passes}
+use Rattle.clock_time.proofs.Tests.{both}
+use Rattle.demands.specs.Refusals.{tests, RefusesInOrder, RefusesAndKeeps, CallRefusesAndKeeps}
 
--- the answer that lines give is in the order of their numbers
-pub ordered : {A : Type 0} (a : A) (cs : List Check) (answer : Answer A) → answer ≡ checked cs a
-    → Ordered cs (numbersOf cs) answer
-ordered a cs answer e =
+-- ---- checks and lines
+pub agree-tests : (ks : List Check) → Agree ks (tests ks)
+agree-tests [] = tt
+agree-tests (k ∷ ks) = (refl, (λ h. h, λ h. h), λ f. agree-tests ks)
+
+-- the answer that checks give is in the order of their lines
+pub ordered : {A : Type 0} (a : A) (ks : List Check) (ls : List Line) → Agree ks ls → (answer : Answer A)
+    → answer ≡ checked ks a → RefusesInOrder ls (numbersOf ls) answer
+ordered a ks ls agree answer e =
     record {
       numbers = refl;
-      refused-exactly = λ n. (λ h. refused-first cs a n (sym e ∙ h), λ h. e ∙ first-refused cs a n h);
-      accepted-exactly = (λ h. accepted-passes cs a (h .0) (sym e ∙ h .1) .0, λ h. (a, e ∙ passes-accepted cs a h));
+      refused-exactly = λ n.
+          let r = refused-exactly ks ls agree a n in (λ h. r .0 (sym e ∙ h), λ h. e ∙ r .1 h);
+      accepted-exactly = (
+        λ h. passes-none ks ls agree (accepted-passes ks a (h .0) (sym e ∙ h .1) .0),
+        λ h. (a, e ∙ passes-accepted ks a (none-passes ks ls agree h)),
+      );
     }
 
--- what leaves lent memory as it was where it refuses
+-- the same with the checks themselves as lines
+pub by-tests : {A : Type 0} (a : A) (ks : List Check) (answer : Answer A) → answer ≡ checked ks a
+    → RefusesInOrder (tests ks) (numbersOf (tests ks)) answer
+by-tests a ks answer e = ordered a ks (tests ks) (agree-tests ks) answer e
+
+-- what leaves lent memory as it was if it refuses
 module _ {A M : Type 0} (old new : M) where
   leaves-answer : (a : Answer A) → leaves old new a .answer ≡ a
   leaves-answer (accepted a) = refl
   leaves-answer (refused n) = refl
 
-  pub leaves-kept : (a : Answer A) → Kept old (leaves old new a)
+  leaves-kept : (a : Answer A) (n : ℕ) → leaves old new a .answer ≡ refused n → leaves old new a .memory ≡ old
   leaves-kept (accepted a) n h = apart h
   leaves-kept (refused m) n h = refl
 
-  pub lent : (cs : List Check) (a : A) → Lent cs (numbersOf cs) old (leaves old new (checked cs a))
-  lent cs a =
-      record {
-        ordered = ordered a cs (leaves old new (checked cs a) .answer) (leaves-answer (checked cs a));
-        kept = leaves-kept (checked cs a);
-      }
+-- an answer and the memory left, decided by checks that agree with lines
+pub record Decided {A M : Type 0} (lines : List Line) (old : M) (e : Exit A M) : Type 0 where
+  pub checks : List Check
+  pub new : M
+  pub value : A
+  pub agree : Agree checks lines
+  pub by : e ≡ leaves old new (checked checks value)
+
+pub decided : {A M : Type 0} (checks : List Check) (lines : List Line) (old new : M) (a : A) (e : Exit A M)
+    → Agree checks lines → e ≡ leaves old new (checked checks a) → Decided lines old e
+decided checks lines old new a e agree by =
+    record { checks = checks; new = new; value = a; agree = agree; by = by }
+
+pub keeps : {A M : Type 0} {lines : List Line} {old : M} {e : Exit A M} → Decided lines old e
+    → RefusesAndKeeps lines (numbersOf lines) old e
+keeps {lines} {old} d =
+    let a = checked (d .checks) (d .value) in
+    rw (d .by) (record {
+      ordered =
+          ordered (d .value) (d .checks) lines (d .agree) (leaves old (d .new) a .answer)
+          (leaves-answer old (d .new) a);
+      kept = leaves-kept old (d .new) a;
+    })
+
+-- one more line before them
+pub decided-after : {A M : Type 0} {lines : List Line} {old : M} {e : Exit A M} (first : Line) (test : Bool) (a : A)
+    → ((test ≡ true) ↔ first .Holds) → (test ≡ true → e ≡ exit (refused (first .number)) old)
+    → (test ≡ false → Decided lines old e) → Decided (first ∷ lines) old e
+decided-after {lines} {old} {e} first test a holds stops goes = go test refl
+  where
+    go : (t : Bool) → test ≡ t → Decided (first ∷ lines) old e
+    go true q =
+        record {
+          checks = given (first .number) true ∷ [];
+          new = old;
+          value = a;
+          agree = (refl, (λ h. holds .0 q, λ h. refl), λ f. absurd (true≢false f));
+          by = stops q;
+        }
+    go false q =
+        let d = goes q in
+        record {
+          checks = given (first .number) false ∷ d .checks;
+          new = d .new;
+          value = d .value;
+          agree = (refl, (λ f. absurd (false≢true f), λ h. absurd (false≢true (sym q ∙ holds .1 h))), λ f. d .agree);
+          by = d .by;
+        }
 
 -- ---- one after another
--- two functions of an answer that make the same of a refusal, and of what lines and then more lines give
+-- two functions of an answer that make the same of a refusal, and of what checks and then more checks give
 module _ {A B X : Type 0} (a : A) (b : B) (ds : List Check) (f : Answer A → X) (g : Answer B → X)
     (stops : (n : ℕ) → f (refused n) ≡ g (refused n)) (goes-on : f (accepted a) ≡ g (checked ds b)) where
   follows : (cs : List Check) → f (checked cs a) ≡ g (checked (cs ++ ds) b)
@@ -54,13 +112,13 @@ module _ {A B X : Type 0} (a : A) (b : B) (ds : List Check) (f : Answer A → X)
       branch true later = stops (c .number)
       branch false later = later
 
--- what is made of an accepted value changes no line
+-- what is made of an accepted value changes no check
 module _ {A B : Type 0} (f : Answer A → Answer B) (g : A → B)
     (on-accepted : (a : A) → f (accepted a) ≡ accepted (g a)) (on-refused : (n : ℕ) → f (refused n) ≡ refused n) where
   pub checked-map : (cs : List Check) (a : A) → f (checked cs a) ≡ checked cs (g a)
   checked-map cs a = rw append-nil at (follows a (g a) [] f (λ x. x) on-refused (on-accepted a) cs)
 
--- what goes on with an accepted value has the lines of both
+-- what goes on with an accepted value has the checks of both
 module _ {A B : Type 0} (a : A) (b : B) (ds : List Check) where
   pub then-checked : (go : A → Answer B) → go a ≡ checked ds b → (cs : List Check)
       → andThen (checked cs a) go ≡ checked (cs ++ ds) b
@@ -84,65 +142,52 @@ status-refused : {A : Type 0} (a : Answer A) → (statusOf a ≡ 0 → ⊥) → 
 status-refused (accepted a) none = absurd (none refl)
 status-refused (refused k) none = (k, refl)
 
-first-positive : (cs : List Check) (n : ℕ) → positive (numbersOf cs) ≡ true → FirstHolds cs n → n ≡ 0 → ⊥
-first-positive [] n p h e = h
-first-positive (c ∷ cs) n p (inl h) e = eqb-false (c .number) 0 (not-true _ (both _ _ p .0)) (h .1 ∙ e)
-first-positive (c ∷ cs) n p (inr h) e =
-    first-positive cs n (both (not (eqb (c .number) 0)) (positive (numbersOf cs)) p .1) (h .1) e
+gives-positive : (ls : List Line) (n : ℕ) → positive (numbersOf ls) ≡ true → Gives ls n → n ≡ 0 → ⊥
+gives-positive [] n p h e = h
+gives-positive (l ∷ ls) n p (inl h) e = eqb-false (l .number) 0 (not-true _ (both _ _ p .0)) (h .1 ∙ e)
+gives-positive (l ∷ ls) n p (inr h) e =
+    gives-positive ls n (both (not (eqb (l .number) 0)) (positive (numbersOf ls)) p .1) (h .1) e
 
-module _ {A : Type 0} (a : A) where
-  status-none : (cs : List Check) → positive (numbersOf cs) ≡ true → statusOf (checked cs a) ≡ 0 → Passes cs
-  status-none cs p h = go (checked cs a) refl h
-    where
-      go : (answer : Answer A) → checked cs a ≡ answer → statusOf answer ≡ 0 → Passes cs
-      go (accepted b) e h = accepted-passes cs a b e .0
-      go (refused n) e h = absurd (first-positive cs n p (refused-first cs a n e) h)
+pub never-0 : {A : Type 0} (ls : List Line) (order : List ℕ) → positive order ≡ true → (answer : Answer A)
+    → RefusesInOrder ls order answer → answer ≡ refused 0 → ⊥
+never-0 ls order p answer r e = gives-positive ls 0 (rw (r .numbers) p) (r .refused-exactly 0 .0 e) refl
 
-  -- a call whose status is that of lines
-  from-C : {M : Type 0} (cs : List Check) (order : List ℕ) → numbersOf cs ≡ order → positive order ≡ true
-      → (old : M) (c : Called M) → c .status ≡ statusOf (checked cs a) → ((c .status ≡ 0 → ⊥) → c .memory ≡ old)
-      → FromC cs order old c
-  from-C cs order same p old c e kept =
-      record {
-        numbers = same;
-        refused-exactly = λ n. (
-          λ h. refused-first cs a (suc n) (status-number (checked cs a) n (sym e ∙ h)),
-          λ h. e ∙ ap statusOf (first-refused cs a (suc n) h),
-        );
-        accepted-exactly =
-            (λ h. status-none cs (rw same p) (sym e ∙ h), λ h. e ∙ ap statusOf (passes-accepted cs a h));
-        kept = kept;
-      }
+-- an answer in an order whose status C gets, with memory that a refusal keeps
+called-keeps : {A M : Type 0} (ls : List Line) (order : List ℕ) → positive order ≡ true → (answer : Answer A)
+    → RefusesInOrder ls order answer → (old : M) (c : Called M) → c .status ≡ statusOf answer
+    → ((n : ℕ) → answer ≡ refused n → c .memory ≡ old) → CallRefusesAndKeeps ls order old c
+called-keeps {A = A} ls order p answer r old c e kept =
+    record {
+      numbers = r .numbers;
+      refused-exactly = λ n. (
+        λ h. r .refused-exactly (suc n) .0 (status-number answer n (sym e ∙ h)),
+        λ h. e ∙ ap statusOf (r .refused-exactly (suc n) .1 h),
+      );
+      accepted-exactly = (
+        λ h. none answer refl (sym e ∙ h),
+        λ h. let a = r .accepted-exactly .1 h in e ∙ ap statusOf (a .1),
+      );
+      kept = λ some. let n = status-refused answer (λ z. some (e ∙ z)) in kept (n .0) (n .1);
+    }
+  where
+    none : (x : Answer A) → answer ≡ x → statusOf x ≡ 0 → NoneHolds ls
+    none (accepted a) q h = r .accepted-exactly .0 (a, q)
+    none (refused n) q h = absurd (gives-positive ls n (rw (r .numbers) p) (r .refused-exactly n .0 q) h)
 
+module _ {A : Type 0} (ls : List Line) (order : List ℕ) (p : positive order ≡ true) where
   -- whose answer goes behind a pointer
-  pub from-answered : (cs : List Check) (order : List ℕ) → numbersOf cs ≡ order → positive order ≡ true
-      → (old : A) (answer : Answer A) → answer ≡ checked cs a → FromC cs order old (answered old answer)
-  from-answered cs order same p old answer e =
-      from-C cs order same p old (answered old answer) (ap statusOf e) (kept answer)
-    where
-      kept : (x : Answer A) → (statusOf x ≡ 0 → ⊥) → answered old x .memory ≡ old
-      kept (accepted x) none = absurd (none refl)
-      kept (refused k) none = refl
+  pub from-answered : (old : A) (answer : Answer A) → RefusesInOrder ls order answer
+      → CallRefusesAndKeeps ls order old (answered old answer)
+  from-answered old answer r =
+      called-keeps ls order p answer r old (answered old answer) refl (λ n e. rw e refl)
 
-  module _ {M : Type 0} (old new : M) (cs : List Check) (order : List ℕ) (same : numbersOf cs ≡ order)
-      (p : positive order ≡ true) (e : Exit A M) (by : e ≡ leaves old new (checked cs a))
-    where
-      answer-by : e .answer ≡ checked cs a
-      answer-by = ap (λ (x : Exit A M). x .answer) by ∙ leaves-answer old new (checked cs a)
+  module _ {M : Type 0} (old : M) (e : Exit A M) (r : RefusesAndKeeps ls order old e) where
+    -- whose result is left in lent memory
+    pub from-left : CallRefusesAndKeeps ls order old (left e)
+    from-left = called-keeps ls order p (e .answer) (r .ordered) old (left e) refl (r .kept)
 
-      memory-by : (n : ℕ) → e .answer ≡ refused n → e .memory ≡ old
-      memory-by n h =
-          ap (λ (x : Exit A M). x .memory) by
-          ∙ leaves-kept old new (checked cs a) n (leaves-answer old new (checked cs a) ∙ sym answer-by ∙ h)
-
-      -- whose result is left in lent memory
-      pub from-left : FromC cs order old (left e)
-      from-left =
-          from-C cs order same p old (left e) (ap statusOf answer-by)
-          (λ none. let r = status-refused (e .answer) none in memory-by (r .0) (r .1))
-
-      -- and with it a number behind a pointer
-      pub from-counted : (n : A) → FromC cs order (old, n) (counted n e)
-      from-counted n =
-          from-C cs order same p (old, n) (counted n e) (ap statusOf answer-by)
-          (λ none. let r = status-refused (e .answer) none in rw (memory-by (r .0) (r .1), r .1) refl)
+    -- and with it a number behind a pointer
+    pub from-counted : (n : A) → CallRefusesAndKeeps ls order (old, n) (counted n e)
+    from-counted n =
+        called-keeps ls order p (e .answer) (r .ordered) (old, n) (counted n e) refl
+        (λ k h. rw (r .kept k h, h) refl)

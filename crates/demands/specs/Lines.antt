@@ -1,26 +1,25 @@
--- The lines of document 01's table of refusals that each entry goes by, in their order. Assumes nothing.
-use Prim.Native.Nat.{ℕ}
-use mathlib.Core.Bool.{Bool, true, false, cond, not, _||_}
+-- The lines of document 01's table of refusals that each entry goes by, in words and in their order.
+use Prim.Native.Nat.{ℕ, _≤_, _<_}
+use mathlib.Core.Path.{_≡_}
+use mathlib.Core.Logic.{_⊎_}
+use mathlib.Core.Bool.{cond}
 use mathlib.Core.List.{List, [], _∷_, _++_}
-use mathlib.Core.Option.{Option, none, some}
-use lib.Dec.{eqb, ltb}
-use lib.ListN.{length}
+use lib.Dec.{eqb}
+use lib.ListN.{length, take}
 use lib.IntN.{ℤ}
-use Rattle.clock_time.specs.Errors.{Answer, Check, given, checked}
-use Rattle.clock_time.specs.Writing.{readsBack}
-use Rattle.calendar.specs.UnixTime.{isValid}
-use Rattle.layout.specs.Text.{Format, textChecks, readText}
-use Rattle.meinberg_standard.specs.Standard.{standard}
-use Rattle.meinberg_pzf.specs.Pzf.{pzf}
-use Rattle.meinberg_gps.specs.Gps.{gps}
-use Rattle.elv_dcf7000.specs.Elv.{elv}
+use Rattle.clock_time.specs.Order.{Line, line}
+use Rattle.clock_time.specs.declared.ClockTime.{ClockTime}
+use Rattle.gregorian.specs.Rules.{GregorianDate}
+use Rattle.calendar.specs.Rules.{ValidReading}
+use Rattle.meinberg_standard.specs.Lines.{standardLines}
+use Rattle.meinberg_pzf.specs.Lines.{pzfLines}
+use Rattle.meinberg_gps.specs.Lines.{gpsLines}
+use Rattle.elv_dcf7000.specs.Lines.{elvLines}
+use Rattle.dcf77.specs.Lines.{minuteLines}
 use Rattle.time_string.specs.declared.Kind.{Kind}
 use Rattle.time_string.specs.declared.Kind.the-variants.{Standard, Pzf, Gps, Elv}
-use Rattle.dcf77.specs.Minute.{minuteChecks, minuteFields, readMinute, minuteText, sameMinute}
-use Rattle.dcf77.specs.declared.MinuteTime.{MinuteTime}
-use Rattle.recording.specs.Gaps.{gapBefore}
-use Rattle.recording.specs.Rule.{runBetween}
-use Rattle.clock_fields.specs.Ranges.{timeRanges, gpsRanges, minuteRanges, fits, fitsAll, timeFrom, gpsFrom, minuteFrom}
+use Rattle.clock_numbers.specs.Numbers.{timeNumbers}
+use Rattle.demands.specs.Accepted.{AcceptsNumbers, AcceptsMinuteNumbers}
 
 -- ---- the orders
 -- "Order for text: 1, 2, 3, 4, 8, 9, 5, 6, 7." (01, Refusal numbers)
@@ -33,51 +32,60 @@ minuteOrder = 11 ∷ 12 ∷ 13 ∷ 14 ∷ 15 ∷ 16 ∷ 17 ∷ 18 ∷ 7 ∷ 5 �
 
 -- ---- strings
 -- the lines of a string of each kind
-abbrev pub linesAs : Kind → List ℕ → List Check
-linesAs Standard s = textChecks standard s
-linesAs Pzf s = textChecks pzf s
-linesAs Gps s = textChecks gps s
-linesAs Elv s = textChecks elv s
+abbrev pub linesAs : Kind → List ℕ → List Line
+linesAs Standard s = standardLines s
+linesAs Pzf s = pzfLines s
+linesAs Gps s = gpsLines s
+linesAs Elv s = elvLines s
 
 -- "66 long is GPS; 32 long is standard [..], else PZF; 21 long is ELV; any other length is refused with 1." (01,
 -- Meinberg and ELV strings)
-abbrev pub kindLines : List ℕ → List Check
-kindLines s = given 1 (not (eqb (length s) 66 || eqb (length s) 32 || eqb (length s) 21)) ∷ []
+abbrev pub kindLines : List ℕ → List Line
+kindLines s = line 1 ((length s ≡ 66 → ⊥) × (length s ≡ 32 → ⊥) × (length s ≡ 21 → ⊥)) ∷ []
 
--- "For a writer: 23, 20" (01, Refusal numbers), where `bytes` are all that could be read as what is to be written; that
--- line 23 holds exactly if nothing is read as it is a part of demand 2
-abbrev pub writerLines : Bool → List ℕ → List ℕ → List Check
-writerLines readable bytes d = given 23 (not readable) ∷ given 20 (ltb (length d) (length bytes)) ∷ []
+-- ---- writers
+-- "For a writer: 23, 20" (01, Refusal numbers); `Reads s` says that the string or run s is read as what is to be written
+abbrev pub writerLines : (List ℕ → Type 0) → List ℕ → List Line
+writerLines Reads buffer =
+    -- "reading that no accepted string or minute of this format gives"
+    line 23 ((s : List ℕ) → Reads s → ⊥)
+    -- "a buffer too short to write to"
+    ∷ line 20 ((s : List ℕ) × (Reads s × (length buffer < length s)))
+    ∷ []
 
--- the lines of a string's writer
-abbrev pub textLines : {A : Type 0} → Format A → A → List ℕ → List Check
-textLines f a d = writerLines (readsBack (readText f) (f .text) (f .same) a) (f .text a) d
+-- ---- recordings
+-- 20: "tape over 100,000"; 21: "place at or past the tape's end" (01, Refusal numbers)
+abbrev pub outcomeLines : List ℕ → ℕ → List Line
+outcomeLines marks place = line 20 (100000 < length marks) ∷ line 21 (length marks ≤ place) ∷ []
 
--- ---- marks
--- the lines of a minute's writer
-abbrev pub minuteLines : MinuteTime → List ℕ → List Check
-minuteLines a d = writerLines (readsBack readMinute minuteText sameMinute a) (minuteText a) d
+-- 20: "sheet and tape lengths differ, tape over 100,000" (01, Refusal numbers)
+abbrev pub fillLines : List ℕ → List ℕ → List Line
+fillLines marks outcomes = line 20 ((length marks ≡ length outcomes → ⊥) ⊎ (100000 < length marks)) ∷ []
 
--- "on a tape 10 comes before these" (01, Refusal numbers): the lines at a gap, by the nearest earlier one;
--- after 10 none is reached, and those of no marks stand there so that the order is the same
-abbrev pub gapLines : List ℕ → ℕ → Option ℕ → List Check
-gapLines marks place none = given 10 true ∷ minuteChecks []
-gapLines marks place (some earlier) = given 10 false ∷ minuteChecks (runBetween marks earlier place)
+-- "For a correction: 20, 21, 22." (01, Refusal numbers)
+abbrev pub correctionLines : List ℕ → List ℕ → ℕ → ℕ → List Line
+correctionLines marks outcomes place mark =
+    -- "sheet and tape lengths differ, tape over 100,000"
+    line 20 ((length marks ≡ length outcomes → ⊥) ⊎ (100000 < length marks))
+    -- "place at or past the tape's end"
+    ∷ line 21 (length marks ≤ place)
+    -- "new mark above 3"
+    ∷ line 22 (3 < mark)
+    ∷ []
 
--- what the marks since the nearest earlier gap would say
-abbrev pub gapMinute : List ℕ → ℕ → Option ℕ → MinuteTime
-gapMinute marks place none = minuteFields []
-gapMinute marks place (some earlier) = minuteFields (runBetween marks earlier place)
+-- ---- the instant and dates
+-- "Refused with 23 where the fields are no valid reading" (01, The reading)
+abbrev pub instantLines : ClockTime → List Line
+instantLines t = line 23 (ValidReading t → ⊥) ∷ []
 
--- the answer at a gap: its lines in their order, and then the minute
-abbrev pub gapAnswer : List ℕ → ℕ → Answer MinuteTime
-gapAnswer marks place =
-    checked (gapLines marks place (gapBefore marks place)) (gapMinute marks place (gapBefore marks place))
+-- 5: "no such date" (01, Refusal numbers), also outside 1970 to 2069
+abbrev pub dateLines : ℕ → ℕ → ℕ → List Line
+dateLines year month day = line 5 ((1970 ≤ year) × (year ≤ 2069) × GregorianDate year month day → ⊥) ∷ []
 
 -- ---- from C
 -- "an unknown kind number from C gives 1" (01, Meinberg and ELV strings)
-abbrev pub unknownKind : ℕ → Check
-unknownKind n = given 1 (ltb 3 n)
+abbrev pub unknownKind : ℕ → Line
+unknownKind n = line 1 (3 < n)
 
 -- the kind that a number from 0 to 3 names
 abbrev pub namedKind : ℕ → Kind
@@ -91,33 +99,25 @@ numberCount Gps = 17
 numberCount Elv = 14
 
 -- 20: "lent memory: [..] a buffer too short to write to" (01, Refusal numbers): so many numbers are to be put
-abbrev pub roomFor : ℕ → List ℤ → Check
-roomFor count fields = given 20 (ltb (length fields) count)
+abbrev pub roomFor : ℕ → List ℤ → Line
+roomFor count fields = line 20 (length fields < count)
 
 -- the kind, the kind's reader, the room
-abbrev pub readLines : ℕ → List ℕ → List ℤ → List Check
+abbrev pub readLines : ℕ → List ℕ → List ℤ → List Line
 readLines n s fields = unknownKind n ∷ linesAs (namedKind n) s ++ (roomFor (numberCount (namedKind n)) fields ∷ [])
 
--- 23 for numbers that are no reading's, and then the kind's writer
-abbrev pub writeLinesAs : Kind → List ℤ → List ℕ → List Check
-writeLinesAs Standard z d = given 23 (not (fitsAll timeRanges z)) ∷ textLines standard (timeFrom z) d
-writeLinesAs Pzf z d = given 23 (not (fitsAll timeRanges z)) ∷ textLines pzf (timeFrom z) d
-writeLinesAs Gps z d = given 23 (not (fitsAll gpsRanges z)) ∷ textLines gps (gpsFrom z) d
-writeLinesAs Elv z d = given 23 (not (fitsAll timeRanges z)) ∷ textLines elv (timeFrom z) d
-
--- the kind before those
-abbrev pub writeLines : ℕ → List ℤ → List ℕ → List Check
-writeLines n z d = unknownKind n ∷ writeLinesAs (namedKind n) z d
+-- the kind, and then the lines of a writer of these numbers
+abbrev pub writeLines : ℕ → List ℤ → List ℕ → List Line
+writeLines n z buffer = unknownKind n ∷ writerLines (λ s. AcceptsNumbers n s z) buffer
 
 -- the minute's reader, the room
-abbrev pub readMinuteLines : List ℕ → List ℤ → List Check
-readMinuteLines m fields = minuteChecks m ++ (roomFor 16 fields ∷ [])
+abbrev pub readMinuteLines : List ℕ → List ℤ → List Line
+readMinuteLines m fields = minuteLines m ++ (roomFor 16 fields ∷ [])
 
--- 23 for numbers that are no minute's, and then the minute's writer
-abbrev pub writeMinuteLines : List ℤ → List ℕ → List Check
-writeMinuteLines z d = given 23 (not (fitsAll minuteRanges z)) ∷ minuteLines (minuteFrom z) d
+-- "Refused with 23 where the fields are no valid reading" (01, The reading): the first 14 numbers are those of none
+abbrev pub instantLinesOf : List ℤ → List Line
+instantLinesOf z = line 23 ((t : ClockTime) → ValidReading t → take 14 z ≡ timeNumbers t → ⊥) ∷ []
 
--- "Refused with 23 where the fields are no valid reading" (01, The reading): numbers that are no clock time's, and then
--- a clock time that is not valid
-abbrev pub unixTimeLines : List ℤ → List Check
-unixTimeLines z = given 23 (not (fits timeRanges z)) ∷ given 23 (not (isValid (timeFrom z))) ∷ []
+-- 20: "a buffer too short to write to" (01, Refusal numbers): the feed's state has 68 bytes
+abbrev pub feedLines : List ℕ → List Line
+feedLines state = line 20 (length state < 68) ∷ []

@@ -1,1 +1,10 @@
-// The three demands in one place: no code, but what the contracts of all public functions come to.
+// The three demands, tied to the code: for each entry a function that only calls it, with the demands as its contract.
+// So a contract below that says less than a demand fails here. Nothing calls these functions.
+mod c_readings;
+mod c_recordings;
+mod instants;
+mod leaves;
+mod minutes;
+mod recordings;
+mod streams;
+mod strings;

@@ -1,0 +1,117 @@
+-- Each entry's checks agree with its lines in words.
+use Prim.Native.Nat.{ℕ, _≤_, _<_}
+use mathlib.Core.Path.{_≡_, refl, ap}
+use mathlib.Core.Logic.{_↔_, _⊎_, inl, inr}
+use mathlib.Core.Bool.{Bool, true, false, not, _||_, false≢true}
+use mathlib.Core.List.{List, [], _∷_, _++_}
+use lib.Dec.{leb, ltb, eqb}
+use lib.ListN.{length}
+use lib.IntN.{ℤ}
+use Rattle.clock_time.specs.Errors.{given}
+use Rattle.clock_time.specs.Order.{Line, numbersOf}
+use Rattle.clock_time.specs.declared.ClockTime.{ClockTime}
+use Rattle.clock_time.proofs.ExactLaws.{eq-exactly, le-exactly, lt-exactly, not-exactly, either-exactly}
+use Rattle.clock_time.proofs.OrderLaws.{Agree, agree-append}
+use Rattle.gregorian.specs.Date.{knownDate}
+use Rattle.calendar.specs.UnixTime.{isValid}
+use Rattle.gregorian.proofs.RulesLaws.{known-exactly}
+use Rattle.calendar.proofs.RulesLaws.{valid-exactly}
+use Rattle.meinberg_gps.specs.Gps.{gps}
+use Rattle.elv_dcf7000.specs.Elv.{elv}
+use Rattle.dcf77.specs.Minute.{minuteChecks}
+use Rattle.layout.proofs.LinesLaws.{agrees}
+use Rattle.meinberg_standard.specs.Standard.{standard}
+use Rattle.meinberg_standard.proofs.SaysLaws as standards
+use Rattle.meinberg_pzf.specs.Pzf.{pzf}
+use Rattle.meinberg_pzf.proofs.SaysLaws as pzfs
+use Rattle.meinberg_gps.proofs.SaysLaws as gpss
+use Rattle.elv_dcf7000.proofs.SaysLaws as elvs
+use Rattle.dcf77.proofs.LinesLaws as minutes
+use Rattle.recording.specs.Recording.{unfit, correctionChecks}
+use Rattle.time_string.specs.declared.Kind.{Kind}
+use Rattle.time_string.specs.declared.Kind.the-variants.{Standard, Pzf, Gps, Elv}
+use Rattle.dcf77.specs.Lines.{minuteLines}
+use Rattle.demands.specs.Lines.{linesAs, kindLines, outcomeLines, fillLines, correctionLines, instantLines}
+use Rattle.demands.specs.Lines.{dateLines, namedKind, numberCount, readLines, readMinuteLines, feedLines}
+use Rattle.demands.specs.Lines.{textOrder, roomFor}
+use Rattle.demands.proofs.Checks.{checksAs, kindChecks, roomCheck, readChecks, readMinuteChecks}
+
+-- ---- tests and what they say
+none-exactly : (a b c : Bool) {P Q R : Type 0} → ((a ≡ true) ↔ P) → ((b ≡ true) ↔ Q) → ((c ≡ true) ↔ R)
+    → (not (a || b || c) ≡ true) ↔ ((P → ⊥) × (Q → ⊥) × (R → ⊥))
+none-exactly true b c p q r = (λ h. absurd (false≢true h), λ n. absurd (n .0 (p .0 refl)))
+none-exactly false true c p q r = (λ h. absurd (false≢true h), λ n. absurd (n .1 (q .0 refl)))
+none-exactly false false true p q r = (λ h. absurd (false≢true h), λ n. absurd (n .2 (r .0 refl)))
+none-exactly false false false p q r =
+    (λ h. (λ x. false≢true (p .1 x), λ x. false≢true (q .1 x), λ x. false≢true (r .1 x)), λ n. refl)
+
+-- ---- strings and minutes
+pub kind-agrees : (s : List ℕ) → Agree (kindChecks s) (kindLines s)
+kind-agrees s =
+    let n = length s in
+    (refl, none-exactly _ _ _ (eq-exactly n 66) (eq-exactly n 32) (eq-exactly n 21), λ p. tt)
+
+pub as-agrees : (kind : Kind) (s : List ℕ) → Agree (checksAs kind s) (linesAs kind s)
+unfolding standard pzf gps elv
+as-agrees Standard s = agrees standards.in-words s
+as-agrees Pzf s = agrees pzfs.in-words s
+as-agrees Gps s = agrees gpss.in-words s
+as-agrees Elv s = agrees elvs.in-words s
+
+-- ---- recordings
+pub outcome-agrees : (marks : List ℕ) (place : ℕ) →
+    Agree (given 20 (ltb 100000 (length marks)) ∷ given 21 (leb (length marks) place) ∷ []) (outcomeLines marks place)
+outcome-agrees marks place = (refl, lt-exactly _ _, λ p. (refl, le-exactly _ _, λ q. tt))
+
+unfit-exactly : (m n : ℕ) → (unfit m n ≡ true) ↔ ((m ≡ n → ⊥) ⊎ (100000 < m))
+unfit-exactly m n = either-exactly _ _ (not-exactly _ (eq-exactly m n)) (lt-exactly 100000 m)
+
+pub fill-agrees : (marks outcomes : List ℕ) →
+    Agree (given 20 (unfit (length marks) (length outcomes)) ∷ []) (fillLines marks outcomes)
+fill-agrees marks outcomes = (refl, unfit-exactly _ _, λ p. tt)
+
+pub correction-agrees : (marks outcomes : List ℕ) (place mark : ℕ) →
+    Agree (correctionChecks marks outcomes place mark) (correctionLines marks outcomes place mark)
+correction-agrees marks outcomes place mark =
+    (refl, unfit-exactly _ _, λ p. (refl, le-exactly _ _, λ q. (refl, lt-exactly _ _, λ r. tt)))
+
+-- ---- the instant and dates
+pub instant-agrees : (t : ClockTime) → Agree (given 23 (not (isValid t)) ∷ []) (instantLines t)
+instant-agrees t = (refl, not-exactly _ (valid-exactly t), λ p. tt)
+
+pub date-agrees : (year month day : ℕ) →
+    Agree (given 5 (not (knownDate year month day)) ∷ []) (dateLines year month day)
+date-agrees year month day = (refl, not-exactly _ (known-exactly year month day), λ p. tt)
+
+-- ---- from C
+room-agrees : (count : ℕ) (fields : List ℤ) → Agree (roomCheck count fields ∷ []) (roomFor count fields ∷ [])
+room-agrees count fields = (refl, lt-exactly _ _, λ p. tt)
+
+pub read-agrees : (n : ℕ) (s : List ℕ) (fields : List ℤ) → Agree (readChecks n s fields) (readLines n s fields)
+read-agrees n s fields = (
+  refl,
+  lt-exactly 3 n,
+  λ p. agree-append (checksAs (namedKind n) s) (linesAs (namedKind n) s) _ _ (as-agrees (namedKind n) s)
+      (λ q. room-agrees (numberCount (namedKind n)) fields),
+)
+
+numbers-append : (ks ls : List Line) → numbersOf (ks ++ ls) ≡ numbersOf ks ++ numbersOf ls
+numbers-append [] ls = refl
+numbers-append (k ∷ ks) ls = ap (λ (ns : List ℕ). k .number ∷ ns) (numbers-append ks ls)
+
+pub as-numbers : (kind : Kind) (s : List ℕ) → numbersOf (linesAs kind s) ≡ textOrder
+as-numbers Standard s = refl
+as-numbers Pzf s = refl
+as-numbers Gps s = refl
+as-numbers Elv s = refl
+
+pub read-numbers : (n : ℕ) (s : List ℕ) (fields : List ℤ)
+    → numbersOf (readLines n s fields) ≡ 1 ∷ textOrder ++ (20 ∷ [])
+read-numbers n s fields = rw (numbers-append (linesAs (namedKind n) s), as-numbers)
+
+pub read-minute-agrees : (m : List ℕ) (fields : List ℤ) → Agree (readMinuteChecks m fields) (readMinuteLines m fields)
+read-minute-agrees m fields =
+    agree-append (minuteChecks m) (minuteLines m) _ _ (minutes.agrees m) (λ q. room-agrees 16 fields)
+
+pub feed-agrees : (state : List ℕ) → Agree (given 20 (ltb (length state) 68) ∷ []) (feedLines state)
+feed-agrees state = (refl, lt-exactly _ _, λ p. tt)

@@ -1,0 +1,46 @@
+-- The checks behind the lines of readers: what their definitions go by.
+use Prim.Native.Nat.{ℕ}
+use mathlib.Core.Bool.{not, _||_}
+use mathlib.Core.List.{List, [], _∷_, _++_}
+use lib.Dec.{eqb, ltb}
+use lib.ListN.{length}
+use lib.IntN.{ℤ}
+use Rattle.clock_time.specs.Errors.{Check, given}
+use Rattle.layout.specs.Text.{textChecks}
+use Rattle.meinberg_standard.specs.Standard.{standard, standardFields}
+use Rattle.meinberg_pzf.specs.Pzf.{pzf, pzfFields}
+use Rattle.meinberg_gps.specs.Gps.{gps, gpsFields}
+use Rattle.elv_dcf7000.specs.Elv.{elv, elvFields}
+use Rattle.dcf77.specs.Minute.{minuteChecks}
+use Rattle.time_string.specs.Kind.{Reading, time, timeAndPosition}
+use Rattle.time_string.specs.declared.Kind.{Kind}
+use Rattle.time_string.specs.declared.Kind.the-variants.{Standard, Pzf, Gps, Elv}
+use Rattle.demands.specs.Lines.{namedKind, numberCount}
+
+abbrev pub checksAs : Kind → List ℕ → List Check
+checksAs Standard s = textChecks standard s
+checksAs Pzf s = textChecks pzf s
+checksAs Gps s = textChecks gps s
+checksAs Elv s = textChecks elv s
+
+-- what is handed on if they pass
+abbrev pub readingAs : Kind → List ℕ → Reading
+readingAs Standard s = time (standardFields s)
+readingAs Pzf s = time (pzfFields s)
+readingAs Gps s = timeAndPosition (gpsFields s)
+readingAs Elv s = time (elvFields s)
+
+abbrev pub kindChecks : List ℕ → List Check
+kindChecks s = given 1 (not (eqb (length s) 66 || eqb (length s) 32 || eqb (length s) 21)) ∷ []
+
+abbrev pub kindCheck : ℕ → Check
+kindCheck n = given 1 (ltb 3 n)
+
+abbrev pub roomCheck : ℕ → List ℤ → Check
+roomCheck count fields = given 20 (ltb (length fields) count)
+
+abbrev pub readChecks : ℕ → List ℕ → List ℤ → List Check
+readChecks n s fields = kindCheck n ∷ checksAs (namedKind n) s ++ (roomCheck (numberCount (namedKind n)) fields ∷ [])
+
+abbrev pub readMinuteChecks : List ℕ → List ℤ → List Check
+readMinuteChecks m fields = minuteChecks m ++ (roomCheck 16 fields ∷ [])

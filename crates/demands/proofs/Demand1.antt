@@ -1,0 +1,303 @@
+-- Demand 1: "Any bytes, any marks, any place, any lent memory: each public entry ends with its answer or with one
+-- numbered refusal, in the order document 01 gives. A refusal hands back its number and nothing else, and changes no
+-- byte or number of the memory we lent." That a function ends, on any input, is part of every function's proof. The
+-- functions in src/ have these statements as their contracts.
+use Prim.Native.Nat.{ℕ, _^_}
+use mathlib.Core.Path.{_≡_, refl}
+use mathlib.Core.Bool.{Bool, true, not, _&&_}
+use mathlib.Core.List.{List, [], _∷_, _++_}
+use lib.Dec.{leb, ltb}
+use lib.ListN.{length}
+use lib.IntN.{ℤ}
+use Rattle.clock_time.specs.Errors.{Check, given, checked}
+use Rattle.clock_time.specs.Called.{answered, left, counted}
+use Rattle.clock_time.specs.Writing.{writing}
+use Rattle.clock_time.specs.declared.ClockTime.{ClockTime}
+use Rattle.gregorian.specs.Date.{knownDate, dayNumber, weekdayOf}
+use Rattle.calendar.specs.UnixTime.{isValid, instantOf, unixTime}
+use Rattle.decimal.specs.Decimal.{value, firstNonDigit, digits, readDigits, writeDigits}
+use Rattle.layout.specs.Text.{clockChecks, textChecks, readText}
+use Rattle.meinberg_standard.specs.Standard.{standard, standardFields, readStandard, writeStandard}
+use Rattle.meinberg_standard.specs.Accepts.{AcceptsStandard}
+use Rattle.meinberg_standard.proofs.Theorems as standards
+use Rattle.meinberg_pzf.specs.Pzf.{pzf, pzfFields, readPzf, writePzf}
+use Rattle.meinberg_pzf.specs.Accepts.{AcceptsPzf}
+use Rattle.meinberg_pzf.proofs.Theorems as pzfs
+use Rattle.meinberg_gps.specs.Gps.{gps, gpsFields, readGps, writeGps}
+use Rattle.meinberg_gps.specs.declared.GpsTime.{GpsTime}
+use Rattle.meinberg_gps.proofs.Theorems as gpss
+use Rattle.elv_dcf7000.specs.Elv.{elv, elvFields, readElv, writeElv}
+use Rattle.elv_dcf7000.proofs.Theorems as elvs
+use Rattle.dcf77.specs.Minute.{minuteChecks, minuteFields, readMinute, writeMinute}
+use Rattle.dcf77.specs.declared.MinuteTime.{MinuteTime}
+use Rattle.dcf77.proofs.LinesLaws as minute-lines
+use Rattle.dcf77.proofs.Theorems as minutes
+use Rattle.meinberg_standard.specs.Lines.{standardLines}
+use Rattle.meinberg_pzf.specs.Lines.{pzfLines}
+use Rattle.meinberg_gps.specs.Lines.{gpsLines}
+use Rattle.elv_dcf7000.specs.Lines.{elvLines}
+use Rattle.dcf77.specs.Lines.{minuteLines}
+use Rattle.meinberg_gps.specs.Accepts.{AcceptsGps}
+use Rattle.elv_dcf7000.specs.Accepts.{AcceptsElv}
+use Rattle.dcf77.specs.Accepts.{AcceptsMinute}
+use Rattle.gps_position.specs.Position.{positionFault, positionOf, readPosition}
+use Rattle.time_string.specs.Kind.{kindOf, readAs}
+use Rattle.time_string.specs.declared.Kind.{Kind}
+use Rattle.time_string.specs.declared.Kind.the-variants.{Standard, Pzf, Gps, Elv}
+use Rattle.recording.specs.Recording.{rule, unfit, outcomeAt, fillOutcomes, recorded, correctionChecks, correctMark}
+use Rattle.listing_lines.specs.Line.{lineOf, writeLine}
+use Rattle.listing_lines.specs.Totals.{totalsLine, writeTotals}
+use Rattle.listing_lines.specs.declared.Totals.{Totals}
+use Rattle.clock_fields.specs.Ranges.{timeRanges, gpsRanges, minuteRanges, fits, fitsAll, timeFrom, gpsFrom, minuteFrom}
+use Rattle.clock_fields.specs.Ranges.{numbered, firstTimeOf, timeOf, gpsOf, minuteOf}
+use Rattle.fields_writer.specs.Writers.{writeFrom, writeMinuteFrom}
+use Rattle.radio_clock_readings.specs.Strings.{kindNumberOf, readInto, unixTimeOf}
+use Rattle.radio_clock_readings.specs.Minutes.{readMinuteInto}
+use Rattle.feed_state.specs.Feed.{FeedMemory, feedInto}
+use Rattle.demands.specs.Refusals.{tests, RefusesInOrder, RefusesAndKeeps, CallRefusesAndKeeps}
+use Rattle.demands.specs.Accepted.{AcceptsNumbers, AcceptsMinuteNumbers}
+use Rattle.demands.specs.Lines.{textOrder, minuteOrder, linesAs, kindLines, writerLines, outcomeLines}
+use Rattle.demands.specs.Lines.{fillLines, correctionLines, instantLines, dateLines, readLines, writeLines}
+use Rattle.demands.specs.Lines.{readMinuteLines, instantLinesOf, feedLines}
+use Rattle.demands.proofs.Checks.{checksAs, readingAs, kindChecks, readChecks, readMinuteChecks}
+use Rattle.demands.proofs.OrderLaws.{ordered, by-tests, keeps, decided, agree-tests}
+use Rattle.demands.proofs.OrderLaws.{from-answered, from-left, from-counted}
+use Rattle.demands.proofs.WriterLaws.{settled, writer-keeps}
+use Rattle.demands.proofs.NumbersLaws.{from-decided, minute-settled}
+use Rattle.demands.proofs.EntryLaws as entry
+use Rattle.demands.proofs.AgreeLaws as agrees
+use Rattle.demands.proofs.InstantLaws as instants
+
+-- ---- strings
+pub tell-kind : (s : List ℕ) → RefusesInOrder (kindLines s) (1 ∷ []) (kindOf s)
+tell-kind s =
+    ordered (entry.toldKind s) (kindChecks s) (kindLines s) (agrees.kind-agrees s) (kindOf s) (entry.kind-checks s)
+
+pub read-by-kind : (kind : Kind) (s : List ℕ) → RefusesInOrder (linesAs kind s) textOrder (readAs kind s)
+read-by-kind kind s =
+    rw (← (agrees.as-numbers kind s))
+    (ordered (readingAs kind s) (checksAs kind s) (linesAs kind s) (agrees.as-agrees kind s) (readAs kind s)
+    (entry.read-as-checks kind s))
+
+pub read-standard : (s : List ℕ) → RefusesInOrder (standardLines s) textOrder (readStandard s)
+unfolding readStandard readText standard
+read-standard s = ordered (standardFields s) (textChecks standard s) _ (agrees.as-agrees Standard s) _ refl
+
+pub read-pzf : (s : List ℕ) → RefusesInOrder (pzfLines s) textOrder (readPzf s)
+unfolding readPzf readText pzf
+read-pzf s = ordered (pzfFields s) (textChecks pzf s) _ (agrees.as-agrees Pzf s) _ refl
+
+pub read-gps : (s : List ℕ) → RefusesInOrder (gpsLines s) textOrder (readGps s)
+unfolding readGps readText gps
+read-gps s = ordered (gpsFields s) (textChecks gps s) _ (agrees.as-agrees Gps s) _ refl
+
+pub read-elv : (s : List ℕ) → RefusesInOrder (elvLines s) textOrder (readElv s)
+unfolding readElv readText elv
+read-elv s = ordered (elvFields s) (textChecks elv s) _ (agrees.as-agrees Elv s) _ refl
+
+pub write-standard : (t : ClockTime) (d : List ℕ) →
+    RefusesAndKeeps (writerLines (λ s. AcceptsStandard s t) d) (23 ∷ 20 ∷ []) d (writeStandard t d)
+write-standard t d = writer-keeps (settled standards.faithful t d)
+
+pub write-pzf : (t : ClockTime) (d : List ℕ) →
+    RefusesAndKeeps (writerLines (λ s. AcceptsPzf s t) d) (23 ∷ 20 ∷ []) d (writePzf t d)
+write-pzf t d = writer-keeps (settled pzfs.faithful t d)
+
+pub write-gps : (g : GpsTime) (d : List ℕ) →
+    RefusesAndKeeps (writerLines (λ s. AcceptsGps s g) d) (23 ∷ 20 ∷ []) d (writeGps g d)
+write-gps g d = writer-keeps (settled gpss.faithful g d)
+
+pub write-elv : (t : ClockTime) (d : List ℕ) →
+    RefusesAndKeeps (writerLines (λ s. AcceptsElv s t) d) (23 ∷ 20 ∷ []) d (writeElv t d)
+write-elv t d = writer-keeps (settled elvs.faithful t d)
+
+-- ---- a DCF77 minute
+pub read-minute : (m : List ℕ) → RefusesInOrder (minuteLines m) minuteOrder (readMinute m)
+unfolding readMinute minuteLines
+read-minute m = ordered (minuteFields m) (minuteChecks m) _ (minute-lines.agrees m) _ refl
+
+pub write-minute : (a : MinuteTime) (d : List ℕ) →
+    RefusesAndKeeps (writerLines (λ m. AcceptsMinute m a) d) (23 ∷ 20 ∷ []) d (writeMinute a d)
+write-minute a d = writer-keeps (settled minutes.faithful a d)
+
+-- ---- a recording, its outcomes, and the correction of a mark
+pub outcome-at : (marks : List ℕ) (place : ℕ) →
+    RefusesInOrder (outcomeLines marks place) (20 ∷ 21 ∷ []) (outcomeAt marks place)
+unfolding outcomeAt
+outcome-at marks place =
+    ordered (rule marks place) (given 20 (ltb 100000 (length marks)) ∷ given 21 (leb (length marks) place) ∷ []) _
+    (agrees.outcome-agrees marks place) _ refl
+
+pub fill-outcomes : (marks outcomes : List ℕ) →
+    RefusesAndKeeps (fillLines marks outcomes) (20 ∷ []) outcomes (fillOutcomes marks outcomes)
+unfolding fillOutcomes
+fill-outcomes marks outcomes =
+    keeps
+    (decided (given 20 (unfit (length marks) (length outcomes)) ∷ []) _ _ _ _ _ (agrees.fill-agrees marks outcomes) refl)
+
+pub correct-mark : (marks outcomes : List ℕ) (place mark : ℕ) →
+    RefusesAndKeeps (correctionLines marks outcomes place mark) (20 ∷ 21 ∷ 22 ∷ []) (recorded marks outcomes)
+    (correctMark marks outcomes place mark)
+unfolding correctMark
+correct-mark marks outcomes place mark =
+    keeps
+    (decided (correctionChecks marks outcomes place mark) _ _ _ _ _ (agrees.correction-agrees marks outcomes place mark)
+    refl)
+
+-- ---- the instant and dates
+pub unix-time : (t : ClockTime) → RefusesInOrder (instantLines t) (23 ∷ []) (unixTime t)
+unfolding unixTime
+unix-time t = ordered (instantOf t) (given 23 (not (isValid t)) ∷ []) _ (agrees.instant-agrees t) _ refl
+
+pub day-number : (year month day : ℕ) → RefusesInOrder (dateLines year month day) (5 ∷ []) (dayNumber year month day)
+unfolding dayNumber
+day-number year month day =
+    ordered _ (given 5 (not (knownDate year month day)) ∷ []) _ (agrees.date-agrees year month day) _ refl
+
+pub weekday : (year month day : ℕ) → RefusesInOrder (dateLines year month day) (5 ∷ []) (weekdayOf year month day)
+unfolding weekdayOf
+weekday year month day =
+    ordered _ (given 5 (not (knownDate year month day)) ∷ []) _ (agrees.date-agrees year month day) _ refl
+
+-- ---- from numbers
+pub write-string : (n : ℕ) (z : List ℤ) (d : List ℕ) →
+    RefusesAndKeeps (writeLines n z d) (1 ∷ 23 ∷ 20 ∷ []) d (writeFrom n z d)
+write-string n z d = keeps (from-decided n z d)
+
+pub write-marks : (z : List ℤ) (d : List ℕ) →
+    RefusesAndKeeps (writerLines (λ m. AcceptsMinuteNumbers m z) d) (23 ∷ 20 ∷ []) d (writeMinuteFrom z d)
+write-marks z d = writer-keeps (minute-settled z d)
+
+-- ---- from C: the status is 0 or the number of the refusal, which leaves all that was lent
+pub c-kind : (old : ℕ) (s : List ℕ) → CallRefusesAndKeeps (kindLines s) (1 ∷ []) old (answered old (kindNumberOf s))
+c-kind old s =
+    from-answered _ _ refl old (kindNumberOf s)
+    (ordered _ (kindChecks s) (kindLines s) (agrees.kind-agrees s) (kindNumberOf s) (entry.kind-number-checks s))
+
+-- 1 stands twice, for an unknown kind and for a wrong length
+pub c-read : (n : ℕ) (s : List ℕ) (fields : List ℤ) →
+    CallRefusesAndKeeps (readLines n s fields) (1 ∷ textOrder ++ (20 ∷ [])) fields (left (readInto n s fields))
+c-read n s fields =
+    from-left (readLines n s fields) (1 ∷ textOrder ++ (20 ∷ [])) refl fields (readInto n s fields)
+    (rw (← (agrees.read-numbers n s fields))
+    (keeps
+    (decided (readChecks n s fields) _ _ _ _ _ (agrees.read-agrees n s fields) (entry.read-checks n s fields))))
+
+pub c-write : (n : ℕ) (z : List ℤ) (d : List ℕ) (old : ℕ) →
+    CallRefusesAndKeeps (writeLines n z d) (1 ∷ 23 ∷ 20 ∷ []) (d, old) (counted old (writeFrom n z d))
+c-write n z d old = from-counted _ _ refl d _ (write-string n z d) old
+
+pub c-read-minute : (m : List ℕ) (fields : List ℤ) →
+    CallRefusesAndKeeps (readMinuteLines m fields) (minuteOrder ++ (20 ∷ [])) fields (left (readMinuteInto m fields))
+unfolding minuteLines
+c-read-minute m fields =
+    from-left _ _ refl fields _
+    (keeps
+    (decided (readMinuteChecks m fields) _ _ _ _ _ (agrees.read-minute-agrees m fields)
+    (entry.read-minute-checks m fields)))
+
+pub c-write-minute : (z : List ℤ) (d : List ℕ) (old : ℕ) →
+    CallRefusesAndKeeps (writerLines (λ m. AcceptsMinuteNumbers m z) d) (23 ∷ 20 ∷ []) (d, old)
+    (counted old (writeMinuteFrom z d))
+c-write-minute z d old = from-counted _ _ refl d _ (write-marks z d) old
+
+pub c-unix-time : (old : ℤ) (z : List ℤ) →
+    CallRefusesAndKeeps (instantLinesOf z) (23 ∷ []) old (answered old (unixTimeOf z))
+c-unix-time old z =
+    from-answered _ _ refl old (unixTimeOf z)
+    (ordered (instantOf (timeFrom z)) (given 23 (not (instants.ofValid z)) ∷ []) (instantLinesOf z)
+    (instants.numbers-agree z) (unixTimeOf z) (instants.numbers-checks z))
+
+pub c-outcome-at : (old : ℕ) (marks : List ℕ) (place : ℕ) →
+    CallRefusesAndKeeps (outcomeLines marks place) (20 ∷ 21 ∷ []) old (answered old (outcomeAt marks place))
+c-outcome-at old marks place = from-answered _ _ refl old _ (outcome-at marks place)
+
+pub c-fill-outcomes : (marks outcomes : List ℕ) →
+    CallRefusesAndKeeps (fillLines marks outcomes) (20 ∷ []) outcomes (left (fillOutcomes marks outcomes))
+c-fill-outcomes marks outcomes = from-left _ _ refl outcomes _ (fill-outcomes marks outcomes)
+
+pub c-correct-mark : (marks outcomes : List ℕ) (place mark old : ℕ) →
+    CallRefusesAndKeeps (correctionLines marks outcomes place mark) (20 ∷ 21 ∷ 22 ∷ []) (recorded marks outcomes, old)
+    (counted old (correctMark marks outcomes place mark))
+c-correct-mark marks outcomes place mark old =
+    from-counted _ _ refl (recorded marks outcomes) _ (correct-mark marks outcomes place mark) old
+
+pub feed : (old : FeedMemory) (s : List ℕ) (limit : ℕ) →
+    RefusesAndKeeps (feedLines (old .state)) (20 ∷ []) old (feedInto old s limit)
+unfolding feedInto
+feed old s limit =
+    keeps (decided (given 20 (ltb (length (old .state)) 68) ∷ []) _ _ _ tt _ (agrees.feed-agrees (old .state)) refl)
+
+pub c-feed : (old : FeedMemory) (s : List ℕ) (limit : ℕ) →
+    CallRefusesAndKeeps (feedLines (old .state)) (20 ∷ []) old (left (feedInto old s limit))
+c-feed old s limit = from-left _ _ refl old (feedInto old s limit) (feed old s limit)
+
+-- ---- functions that no user calls, but that refuse: by their own tests. The feed, `list` and the tests of a date, a
+-- time or a byte refuse nothing: their answers have no case for it.
+pub check-clock : (t : ClockTime) (mismatch : Bool) →
+    RefusesInOrder (tests (clockChecks t mismatch)) (5 ∷ 6 ∷ 7 ∷ []) (checked (clockChecks t mismatch) t)
+unfolding clockChecks
+check-clock t mismatch = by-tests t (clockChecks t mismatch) _ refl
+
+pub read-position : (s : List ℕ) →
+    RefusesInOrder (tests (given 9 (positionFault s) ∷ [])) (9 ∷ []) (readPosition s)
+unfolding readPosition
+read-position s = by-tests (positionOf s) (given 9 (positionFault s) ∷ []) _ refl
+
+pub time-of : (z : List ℤ) →
+    RefusesInOrder (tests (given 23 (not (fitsAll timeRanges z)) ∷ [])) (23 ∷ []) (timeOf z)
+unfolding numbered
+time-of z = by-tests (timeFrom z) (given 23 (not (fitsAll timeRanges z)) ∷ []) _ refl
+
+pub first-time-of : (z : List ℤ) →
+    RefusesInOrder (tests (given 23 (not (fits timeRanges z)) ∷ [])) (23 ∷ []) (firstTimeOf z)
+unfolding numbered
+first-time-of z = by-tests (timeFrom z) (given 23 (not (fits timeRanges z)) ∷ []) _ refl
+
+pub gps-of : (z : List ℤ) → RefusesInOrder (tests (given 23 (not (fitsAll gpsRanges z)) ∷ [])) (23 ∷ []) (gpsOf z)
+unfolding numbered
+gps-of z = by-tests (gpsFrom z) (given 23 (not (fitsAll gpsRanges z)) ∷ []) _ refl
+
+pub minute-of : (z : List ℤ) →
+    RefusesInOrder (tests (given 23 (not (fitsAll minuteRanges z)) ∷ [])) (23 ∷ []) (minuteOf z)
+unfolding numbered
+minute-of z = by-tests (minuteFrom z) (given 23 (not (fitsAll minuteRanges z)) ∷ []) _ refl
+
+pub read-digits : (s : List ℕ) →
+    RefusesInOrder (tests (given 1 (ltb 19 (length s)) ∷ given 3 (ltb (firstNonDigit s) (length s)) ∷ []))
+    (1 ∷ 3 ∷ []) (readDigits s .answer)
+read-digits s =
+    by-tests (value s) (given 1 (ltb 19 (length s)) ∷ given 3 (ltb (firstNonDigit s) (length s)) ∷ [])
+    (readDigits s .answer) (entry.digits-checks s)
+
+-- a writer's tests, with what they are made of: that bytes stand for what is to be written, and that there is room
+module _ (stand : Bool) (bytes d : List ℕ) where
+  pub write-bytes :
+      RefusesAndKeeps (tests (given 23 (not stand) ∷ given 20 (ltb (length d) (length bytes)) ∷ [])) (23 ∷ 20 ∷ []) d
+      (writing stand bytes d)
+  unfolding writing
+  write-bytes =
+      keeps
+      (decided lines _ _ _ _ _ (agree-tests lines) refl)
+    where
+      lines : List Check
+      lines = given 23 (not stand) ∷ given 20 (ltb (length d) (length bytes)) ∷ []
+
+pub write-digits : (n k : ℕ) (d : List ℕ) →
+    RefusesAndKeeps
+    (tests (given 23 (not (leb k 19 && ltb n (10 ^ k))) ∷ given 20 (ltb (length d) (length (digits k n))) ∷ []))
+    (23 ∷ 20 ∷ []) d (writeDigits n k d)
+unfolding writeDigits
+write-digits n k d = write-bytes _ _ d
+
+pub write-line : (t : ClockTime) (d : List ℕ) →
+    RefusesAndKeeps (tests (given 23 (not (isValid t)) ∷ given 20 (ltb (length d) (length (lineOf t))) ∷ []))
+    (23 ∷ 20 ∷ []) d (writeLine t d)
+unfolding writeLine
+write-line t d = write-bytes _ _ d
+
+pub write-totals : (t : Totals) (d : List ℕ) →
+    RefusesAndKeeps (tests (given 23 (not true) ∷ given 20 (ltb (length d) (length (totalsLine t))) ∷ []))
+    (23 ∷ 20 ∷ []) d (writeTotals t d)
+unfolding writeTotals
+write-totals t d = write-bytes _ _ d

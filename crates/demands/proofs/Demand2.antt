@@ -1,0 +1,160 @@
+-- Demand 2: "A string or a DCF77 minute is accepted exactly when the rules in document 01 hold, and then every field,
+-- offset and flag is the one those rules give. Written back, an accepted reading gives the same bytes or marks. Given
+-- room enough, a writer refuses a reading exactly when nothing acceptable in that format reads as it." The functions in
+-- src/ have these statements as their contracts.
+use Prim.Native.Nat.{ℕ, _≤_}
+use mathlib.Core.Path.{_≡_, refl, sym, ap, _∙_}
+use mathlib.Core.List.{List, _++_}
+use lib.ListN.{length, take, drop}
+use lib.IntN.{ℤ}
+use lib.Seq.{take-at}
+use Rattle.clock_time.specs.Called.{called, answered, left, counted}
+use Rattle.clock_time.specs.declared.ClockTime.{ClockTime}
+use Rattle.gregorian.specs.Date.{dayNumber, weekdayOf}
+use Rattle.calendar.specs.UnixTime.{instantOf, unixTime}
+use Rattle.meinberg_standard.specs.Standard.{readStandard, writeStandard}
+use Rattle.meinberg_standard.specs.Accepts.{AcceptsStandard}
+use Rattle.meinberg_standard.proofs.Theorems as standards
+use Rattle.meinberg_pzf.specs.Pzf.{readPzf, writePzf}
+use Rattle.meinberg_pzf.specs.Accepts.{AcceptsPzf}
+use Rattle.meinberg_pzf.proofs.Theorems as pzfs
+use Rattle.meinberg_gps.specs.Gps.{readGps, writeGps}
+use Rattle.meinberg_gps.specs.declared.GpsTime.{GpsTime}
+use Rattle.meinberg_gps.proofs.Theorems as gpss
+use Rattle.elv_dcf7000.specs.Elv.{readElv, writeElv}
+use Rattle.elv_dcf7000.proofs.Theorems as elvs
+use Rattle.dcf77.specs.Minute.{readMinute, writeMinute}
+use Rattle.dcf77.specs.declared.MinuteTime.{MinuteTime}
+use Rattle.dcf77.proofs.Theorems as minutes
+use Rattle.meinberg_gps.specs.Accepts.{AcceptsGps}
+use Rattle.elv_dcf7000.specs.Accepts.{AcceptsElv}
+use Rattle.dcf77.specs.Accepts.{AcceptsMinute}
+use Rattle.gregorian.specs.Days.{DayAfter, OnWeekday}
+use Rattle.gregorian.proofs.Theorems as days
+use Rattle.time_string.specs.Kind.{Reading, readingTime, kindOf, readAs}
+use Rattle.time_string.specs.declared.Kind.{Kind}
+use Rattle.clock_numbers.specs.Numbers.{minuteNumbers}
+use Rattle.fields_writer.specs.Writers.{writeFrom, writeMinuteFrom}
+use Rattle.radio_clock_readings.specs.Strings.{kindNumber, kindNumberOf, readingNumbers, readInto, unixTimeOf}
+use Rattle.radio_clock_readings.specs.Minutes.{readMinuteInto}
+use Rattle.demands.specs.Accepted.{TellsKind, AcceptsAs, AcceptsNumbered, AcceptsNumbers, AcceptsMinuteNumbers}
+use Rattle.demands.specs.Exactly.{ReadsExactly, WritesExactly, CallAnswersExactly, CallReadsExactly}
+use Rattle.demands.specs.Exactly.{CallWritesExactly}
+use Rattle.demands.specs.Instant.{InstantOf, InstantOfNumbers}
+use Rattle.demands.specs.Lines.{namedKind, numberCount}
+use Rattle.demands.proofs.ReaderLaws as reader
+use Rattle.demands.proofs.WriterLaws.{settled, writes-exactly, call-writes-exactly}
+use Rattle.demands.proofs.NumbersLaws as numbers
+use Rattle.demands.proofs.InstantLaws as instants
+use Rattle.demands.proofs.NeverLaws as never
+
+-- ---- strings
+pub tell-kind : (s : List ℕ) → ReadsExactly (TellsKind s) (kindOf s)
+tell-kind = reader.tells-exactly
+
+pub read-by-kind : (kind : Kind) (s : List ℕ) → ReadsExactly (AcceptsAs kind s) (readAs kind s)
+read-by-kind = reader.as-exactly
+
+pub read-standard : (s : List ℕ) → ReadsExactly (AcceptsStandard s) (readStandard s)
+read-standard = standards.faithful .accepted-exactly
+
+pub read-pzf : (s : List ℕ) → ReadsExactly (AcceptsPzf s) (readPzf s)
+read-pzf = pzfs.faithful .accepted-exactly
+
+pub read-gps : (s : List ℕ) → ReadsExactly (AcceptsGps s) (readGps s)
+read-gps = gpss.faithful .accepted-exactly
+
+pub read-elv : (s : List ℕ) → ReadsExactly (AcceptsElv s) (readElv s)
+read-elv = elvs.faithful .accepted-exactly
+
+pub write-standard : (t : ClockTime) (d : List ℕ) → WritesExactly (λ s. AcceptsStandard s t) d (writeStandard t d)
+write-standard t d = writes-exactly (settled standards.faithful t d)
+
+pub write-pzf : (t : ClockTime) (d : List ℕ) → WritesExactly (λ s. AcceptsPzf s t) d (writePzf t d)
+write-pzf t d = writes-exactly (settled pzfs.faithful t d)
+
+pub write-gps : (g : GpsTime) (d : List ℕ) → WritesExactly (λ s. AcceptsGps s g) d (writeGps g d)
+write-gps g d = writes-exactly (settled gpss.faithful g d)
+
+pub write-elv : (t : ClockTime) (d : List ℕ) → WritesExactly (λ s. AcceptsElv s t) d (writeElv t d)
+write-elv t d = writes-exactly (settled elvs.faithful t d)
+
+-- ---- a DCF77 minute
+pub read-minute : (m : List ℕ) → ReadsExactly (AcceptsMinute m) (readMinute m)
+read-minute = minutes.faithful .accepted-exactly
+
+pub write-minute : (a : MinuteTime) (d : List ℕ) → WritesExactly (λ m. AcceptsMinute m a) d (writeMinute a d)
+write-minute a d = writes-exactly (settled minutes.faithful a d)
+
+-- ---- from numbers
+pub write-string : (n : ℕ) (z : List ℤ) (d : List ℕ) → WritesExactly (λ s. AcceptsNumbers n s z) d (writeFrom n z d)
+write-string = numbers.from-exactly
+
+pub write-marks : (z : List ℤ) (d : List ℕ) → WritesExactly (λ m. AcceptsMinuteNumbers m z) d (writeMinuteFrom z d)
+write-marks z d = writes-exactly (numbers.minute-settled z d)
+
+-- ---- the instant and dates
+pub unix-time : (t : ClockTime) → ReadsExactly (InstantOf t) (unixTime t)
+unix-time = instants.unix-time-exactly
+
+pub day-number : (year month day : ℕ)
+    → ReadsExactly (λ n. DayAfter n year month day × (year ≤ 2069)) (dayNumber year month day)
+day-number = days.day-number-exactly
+
+pub weekday : (year month day : ℕ)
+    → ReadsExactly (λ w. OnWeekday year month day w × (year ≤ 2069)) (weekdayOf year month day)
+weekday = days.weekday-of-exactly
+
+-- ---- from C
+pub c-kind : (old : ℕ) (s : List ℕ)
+    → CallAnswersExactly (λ n. (kind : Kind) × (TellsKind s kind × (n ≡ kindNumber kind)))
+    (answered old (kindNumberOf s))
+c-kind old s = reader.call-answers old (kindNumberOf s) (never.kind-0 s) (reader.kind-number-exactly s)
+
+pub c-read : (n : ℕ) (s : List ℕ) (fields : List ℤ)
+    → CallReadsExactly readingNumbers (AcceptsNumbered n s) fields (left (readInto n s fields))
+unfolding readInto
+c-read n s fields = reader.call-reads readingNumbers fields _ (never.read-0 n s) (reader.numbered-exactly n s)
+
+pub c-write : (n : ℕ) (z : List ℤ) (d : List ℕ) (old : ℕ)
+    → CallWritesExactly (λ s. AcceptsNumbers n s z) d (counted old (writeFrom n z d))
+c-write = numbers.call-from-exactly
+
+pub c-read-minute : (m : List ℕ) (fields : List ℤ)
+    → CallReadsExactly minuteNumbers (AcceptsMinute m) fields (left (readMinuteInto m fields))
+unfolding readMinuteInto
+c-read-minute m fields = reader.call-reads minuteNumbers fields (readMinute m) (never.minute-0 m) (read-minute m)
+
+pub c-write-minute : (z : List ℤ) (d : List ℕ) (old : ℕ)
+    → CallWritesExactly (λ m. AcceptsMinuteNumbers m z) d (counted old (writeMinuteFrom z d))
+c-write-minute z d old = call-writes-exactly (numbers.minute-settled z d) old
+
+pub c-unix-time : (old : ℤ) (z : List ℤ) → CallAnswersExactly (InstantOfNumbers z) (answered old (unixTimeOf z))
+c-unix-time old z = reader.call-answers old (unixTimeOf z) (never.instant-0 z) (instants.numbers-exactly z)
+
+-- "Written back, an accepted reading gives the same bytes or marks.": the numbers that a call left, as many as the kind
+-- has, are written as the string that was read
+pub c-round-trip : (n : ℕ) (s : List ℕ) (fields z : List ℤ) → left (readInto n s fields) ≡ called 0 z
+    → (d : List ℕ) (old : ℕ) → length s ≤ length d
+    → counted old (writeFrom n (take (numberCount (namedKind n)) z) d) ≡ called 0 (s ++ drop (length s) d, length s)
+c-round-trip n s fields z h d old room =
+    let r = c-read n s fields z .0 h in
+    let count = numberCount (namedKind n) in
+    let first = ap (take count) (r .1 .2) ∙ take-at _ _ count (numbers.numbers-long n s (r .0) (r .1 .0)) in
+    c-write n _ d old .written-back s (r .0, (r .1 .0, first)) room
+
+pub c-minute-round-trip : (m : List ℕ) (fields z : List ℤ) → left (readMinuteInto m fields) ≡ called 0 z
+    → (d : List ℕ) (old : ℕ) → length m ≤ length d
+    → counted old (writeMinuteFrom (take 16 z) d) ≡ called 0 (m ++ drop (length m) d, length m)
+c-minute-round-trip m fields z h d old room =
+    let r = c-read-minute m fields z .0 h in
+    let first = ap (take 16) (r .1 .2) ∙ take-at _ _ _ (numbers.minute-numbers-long (r .0)) in
+    c-write-minute _ d old .written-back m (r .0, (r .1 .0, first)) room
+
+-- every string and every minute that is read has an instant, from C by the numbers that the call left
+pub c-instant-read : (n : ℕ) (s : List ℕ) (fields z : List ℤ) → left (readInto n s fields) ≡ called 0 z → (old : ℤ)
+    → (r : Reading) × (AcceptsNumbered n s r
+    × (answered old (unixTimeOf z) ≡ called 0 (instantOf (readingTime r))))
+c-instant-read n s fields z h old =
+    let r = c-read n s fields z .0 h in
+    (r .0, (r .1 .0, instants.instant-left n s (r .0) (r .1 .0) z _ (r .1 .2) old))

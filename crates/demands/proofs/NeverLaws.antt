@@ -1,0 +1,43 @@
+-- No refusal has the number 0, which C takes for success.
+use Prim.Native.Nat.{ℕ}
+use mathlib.Core.Path.{_≡_, refl}
+use mathlib.Core.Bool.{not}
+use mathlib.Core.List.{List, [], _∷_}
+use lib.IntN.{ℤ}
+use Rattle.clock_time.specs.Errors.{refused, given}
+use Rattle.clock_time.proofs.ExactLaws.{lt-exactly}
+use Rattle.calendar.specs.UnixTime.{instantOf}
+use Rattle.dcf77.specs.Minute.{readMinute}
+use Rattle.clock_fields.specs.Ranges.{timeFrom}
+use Rattle.radio_clock_readings.specs.Strings.{kindNumber, kindNumberOf, readNumbered, unixTimeOf}
+use Rattle.demands.specs.Lines.{textOrder, minuteOrder, kindLines, linesAs, unknownKind, namedKind, instantLinesOf}
+use Rattle.demands.proofs.Checks.{checksAs, readingAs, kindCheck, kindChecks}
+use Rattle.demands.proofs.EntryLaws as entry
+use Rattle.demands.proofs.AgreeLaws as agrees
+use Rattle.demands.proofs.InstantLaws as instants
+use Rattle.demands.proofs.OrderLaws.{ordered, never-0}
+use Rattle.demands.proofs.Demand1 as demand-1
+
+pub kind-0 : (s : List ℕ) → kindNumberOf s ≡ refused 0 → ⊥
+kind-0 s =
+    never-0 _ (1 ∷ []) refl (kindNumberOf s)
+    (ordered (kindNumber (entry.toldKind s)) (kindChecks s) (kindLines s) (agrees.kind-agrees s) (kindNumberOf s)
+    (entry.kind-number-checks s))
+
+pub read-0 : (n : ℕ) (s : List ℕ) → readNumbered n s ≡ refused 0 → ⊥
+read-0 n s =
+    never-0 (unknownKind n ∷ linesAs (namedKind n) s) (1 ∷ textOrder) refl (readNumbered n s)
+    (rw (← (agrees.as-numbers (namedKind n) s))
+    (ordered (readingAs (namedKind n) s) (kindCheck n ∷ checksAs (namedKind n) s)
+    (unknownKind n ∷ linesAs (namedKind n) s)
+    (refl, lt-exactly 3 n, λ p. agrees.as-agrees (namedKind n) s) (readNumbered n s)
+    (entry.read-numbered-checks n s)))
+
+pub minute-0 : (m : List ℕ) → readMinute m ≡ refused 0 → ⊥
+minute-0 m = never-0 _ minuteOrder refl (readMinute m) (demand-1.read-minute m)
+
+pub instant-0 : (z : List ℤ) → unixTimeOf z ≡ refused 0 → ⊥
+instant-0 z =
+    never-0 _ (23 ∷ []) refl (unixTimeOf z)
+    (ordered (instantOf (timeFrom z)) (given 23 (not (instants.ofValid z)) ∷ []) (instantLinesOf z) (instants.numbers-agree z) (unixTimeOf z)
+    (instants.numbers-checks z))

@@ -1,0 +1,10 @@
+use borrow.Author.Needs.{needs}
+use Rattle.demands.proofs.leaves.write_digits.Statement.{statement}
+use Rattle.demands.proofs.leaves.write_digits.Tie as tie
+use Rattle.demands.proofs.Demand1 as demand-1
+
+returns : tie.Need-returns
+returns c = rw (c .before .before .write-digits .ensures) (demand-1.write-digits _ _ _)
+
+pub write-digits-spec : {M : Type 1} → statement M
+write-digits-spec = tie.close (tie.spec (λ c κs. search needs) (λ c. search needs) returns)

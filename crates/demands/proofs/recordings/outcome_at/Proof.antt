@@ -1,0 +1,13 @@
+use borrow.Author.Needs.{needs}
+use Rattle.demands.proofs.recordings.outcome_at.Statement.{statement}
+use Rattle.demands.proofs.recordings.outcome_at.Tie as tie
+use Rattle.demands.proofs.Demand1 as demand-1
+use Rattle.demands.proofs.Demand3 as demand-3
+
+returns : tie.Need-returns
+returns c =
+    let e = c .outcome-at .ensures in
+    (rw e (demand-1.outcome-at _ _), rw e (demand-3.outcome-at _ _))
+
+pub outcome-at-spec : {M : Type 1} → statement M
+outcome-at-spec = tie.close (tie.spec (λ c κs. search needs) returns)

@@ -1,0 +1,32 @@
+// The serial feed and the listing of a stream, which refuse nothing.
+use framing::Fed;
+use framing::Framer;
+use framing::Step;
+use listing::Listed;
+use listing::Listing;
+ghost use mathlib.Core.Path.{_≡_};
+ghost use Rattle.framing.specs.Step.{stepped, stepOf};
+ghost use Rattle.framing.specs.Feed.{fed};
+ghost use Rattle.framing.specs.Steps.{BySteps};
+ghost use Rattle.listing.specs.Listing.{listedInto};
+ghost use Rattle.demands.specs.Streams.{FewBytes, Lists};
+
+fn step(f: Framer, b: u8) -> Step
+    ensures step { λ r. ⌜ stepped r ≡ stepOf f b ⌝ }
+    ensures few { λ r. ⌜ FewBytes (stepped r .answer) ⌝ }
+{
+    f.step(b)
+}
+
+fn feed(f: Framer, s: &[u8], limit: usize) -> Fed
+    ensures steps { λ r. ⌜ BySteps f (now (s .entry)) limit (fed r) ⌝ }
+    ensures few { λ r. ⌜ FewBytes (fed r .answer) ⌝ }
+{
+    f.feed(s, limit)
+}
+
+fn list(l: Listing, s: &[u8], out: &mut [u8]) -> Listed
+    ensures { λ r. ⌜ Lists l (now (s .entry)) (now (out .entry)) (listedInto r (now (out .exit))) ⌝ }
+{
+    l.list(s, out)
+}

@@ -15,8 +15,8 @@ abbrev pub DigitsAt : List ℕ → ℕ → ℕ → Type 0
 DigitsAt s first last = (i : ℕ) → first ≤ i → i ≤ last → MayStand digit (getD s i 0)
 
 -- "whole parts, height among them, are right-aligned with blanks for leading zeros, the last whole digit always
--- present, a needless zero refused" (01, Meinberg and ELV strings): at the places from the first to the last, the
--- digits start at one of them
+-- present, a needless zero refused" (01, Meinberg and ELV strings): of the places from the first to the last, those
+-- before one of them hold blanks, and digits stand from it on
 pub record WholePart (s : List ℕ) (first last : ℕ) : Type 0 where
   pub start : ℕ
   pub within : first ≤ start

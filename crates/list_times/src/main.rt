@@ -4,13 +4,26 @@ use clock_time::WriteAnswer;
 use libc::STDIN_FILENO;
 use libc::STDOUT_FILENO;
 use listing::Listing;
-use listing_lines::Totals;
+ghost use mathlib.Core.Path.{_≡_};
+ghost use Prim.Native.Nat.{_≤_};
+ghost use lib.ListN.{length};
 ghost use Rattle.io.specs.Counts.{Counts};
+ghost use Rattle.layout.specs.Ascii.{ascii};
+ghost use Rattle.listing_lines.specs.Totals.{totalsLine};
+ghost use Rattle.listing.specs.Listing.{textOf};
+ghost use Rattle.list_times.specs.Progress.{Holds, Takes, Lists, Reaches};
 
 // The state between two reads; `is_open` until a write fails.
 struct State {
     listing: Listing,
     is_open: bool,
+}
+
+// The listing after the bytes taken, and whether their text was written.
+struct Part {
+    listing: Listing,
+    taken: usize,
+    is_written: bool,
 }
 
 // Writes text; says so and answers false where that fails.
@@ -22,29 +35,67 @@ fn write(text: &[u8]) -> bool {
     is_written
 }
 
-// Writes the first n bytes of out, or all where they are fewer.
-fn write_start(out: &[u8], n: usize) -> bool {
-    if out.len() < n {
-        return write(out);
-    }
+// Writes the first n bytes of out.
+fn write_start(out: &[u8], n: usize) -> bool
+    requires { ⌜ n ≤ length (now out) ⌝ }
+{
     write(&out[..n])
 }
 
+// Writes the heading.
+fn write_heading(text: &[u8]) -> bool
+    requires { ⌜ now text ≡ ascii "time zone flags\n" ⌝ }
+{
+    write(text)
+}
+
+// Writes the first n bytes of out, which are the text of the bytes s after `listing`. Of these two only the `requires`
+// speaks.
+fn write_text(listing: Listing, s: &[u8], out: &[u8], n: usize) -> bool
+    requires { ⌜ Holds (now out) n (textOf listing (now s)) ⌝ }
+{
+    write_start(out, n)
+}
+
+// Writes the first n bytes of out, which are the line of the totals of `end`. Of `end` only the `requires` speaks.
+fn write_last(end: Listing, out: &[u8], n: usize) -> bool
+    requires { ⌜ Holds (now out) n (totalsLine (end .totals)) ⌝ }
+{
+    write_start(out, n)
+}
+
+// Takes bytes of s, as many as `out` has room for, and writes their text.
+fn write_part(listing: Listing, s: &[u8], out: &mut [u8; 65536]) -> Part
+    ensures { λ r. ⌜ Takes listing (now (s .entry)) r ⌝ }
+{
+    let listed = listing.list(s, out);
+    let taken = listed.taken;
+    let is_written = write_text(listing, &s[..taken], out, listed.length);
+    let next = listed.listing;
+    Part {
+        listing: next,
+        taken,
+        is_written,
+    }
+}
+
 // Writes the lines of the bytes s, as long as writing does not fail.
-fn write_lines(state: State, s: &[u8], out: &mut [u8; 65536]) -> State {
+fn write_lines(state: State, s: &[u8], out: &mut [u8; 65536]) -> State
+    ensures { λ r. ⌜ Lists (state .listing) (now (s .entry)) r ⌝ }
+{
     let mut listing = state.listing;
     let mut i = 0;
     while i < s.len() {
-        let listed = listing.list(&s[i..], out);
-        let next = listed.listing;
+        let part = write_part(listing, &s[i..], out);
+        let next = part.listing;
         listing = next;
-        if !write_start(out, listed.length) {
+        if !part.is_written {
             return State {
                 listing,
                 is_open: false,
             };
         }
-        i += listed.taken;
+        i += part.taken;
     }
     State {
         listing,
@@ -63,9 +114,11 @@ fn read_some(buf: &mut [u8; 65536]) -> usize
     io::count(got, buf)
 }
 
-// A proved loop has to end, and nothing says that the input does. So the loop counts its turns down, from a number that
-// no run uses up.
-fn list_input(start: State) -> State {
+// Reads to the input's end and writes the lines of what comes, as long as writing does not fail. A proved loop has to
+// end, and nothing says that the input does. So the loop counts its turns down, from a number that no run uses up.
+fn list_input(start: State) -> State
+    ensures { λ r. ⌜ Reaches (start .listing) (r .listing) ⌝ }
+{
     let mut buf = io::large_buffer();
     let mut out = io::large_buffer();
     let mut state = start;
@@ -81,20 +134,22 @@ fn list_input(start: State) -> State {
     state
 }
 
-fn write_totals(t: Totals) -> bool {
+// Writes the line of the totals of `end`.
+fn write_totals(end: Listing) -> bool {
+    let totals = end.totals;
     let mut text = [0u8; 86];
-    match listing_lines::write_totals(t, &mut text) {
-        WriteAnswer::Written(n) => write_start(&text, n),
+    match listing_lines::write_totals(totals, &mut text) {
+        WriteAnswer::Written(n) => write_last(end, &text, n),
         WriteAnswer::Refused(_) => false,
     }
 }
 
 fn main() {
-    let is_open = write(b"time zone flags\n");
+    let is_open = write_heading(b"time zone flags\n");
     let listing = Listing::new();
     let end = list_input(State { listing, is_open });
     if end.is_open {
         let listing = end.listing;
-        write_totals(listing.totals);
+        write_totals(listing);
     }
 }

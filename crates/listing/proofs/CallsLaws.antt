@@ -3,15 +3,14 @@ use Prim.Native.Nat.{ℕ, suc, _+_, _-_, _≤_, _<_}
 use native.Mathlib.Omega.{arith}
 use native.Mathlib.Nat.{lt-of-not-le}
 use native.Mathlib.Decide.{decLe}
-use mathlib.Core.Path.{_≡_, refl, sym, ap, _∙_}
+use mathlib.Core.Path.{_≡_, refl, sym, ap, subst, _∙_}
 use mathlib.Core.Bool.{Bool, true, false, cond}
 use mathlib.Core.List.{List, [], _∷_, _++_}
 use lib.Dec.{ltb}
-use lib.ListN.{length, take, drop, length-append, length-drop}
+use lib.ListN.{length, take, drop, length-append}
 use lib.Seq.{take-append-seam, take-length}
 use Rattle.framing.specs.Feed.{feedOf}
 use Rattle.framing.specs.Framed.{Finds, Drops}
-use Rattle.framing.proofs.FeedLaws.{rest}
 use Rattle.listing.specs.declared.Listing.{Listing}
 use Rattle.listing.specs.declared.Listed.{Listed}
 use Rattle.listing.specs.Items.{string, overlong, readString, itemOf, itemLine}
@@ -92,22 +91,31 @@ text-fits l (b ∷ s) room = elim (decLe 35 room) [
   | no h ↦ rw (taken-full l (b ∷ s) room (lt-of-not-le h)) (omega arith)
 ]
 
--- ---- for a loop over the rest of s, `&s[i..]`
-module _
-    (l : Listing) (s : List ℕ) (i : ℕ) (q : i < length s) (buffer out : List ℕ) (r : Listed)
-    (e : listedInto r out ≡ listOf l (take (length s - i) (drop i s)) buffer)
-  where
-    part-taken : r .taken ≡ takenOf l (drop i s) (length buffer)
-    unfolding listOf
-    part-taken = ap (λ (o : ListedInto). o .taken) (rw (rest s i) at e)
+front-fits : (x y : List ℕ) → length x ≤ length (x ++ y)
+front-fits x y = omega (arith, length-append x y)
 
-    pub part-within : i + r .taken ≤ length s
-    part-within = omega (arith, part-taken, taken-within l (drop i s) (length buffer), length-drop i s)
+-- ---- a call of the function: what it took, and what it put to the front of its buffer
+module _ (l : Listing) (s buffer out : List ℕ) (r : Listed) (e : listedInto r out ≡ listOf l s buffer) where
+  pub listed-within : r .taken ≤ length s
+  unfolding listOf
+  listed-within = subst (λ (x : ListedInto). x .taken ≤ length s) (sym e) (taken-within l s (length buffer))
 
-    pub part-falls : 35 ≤ length buffer → length s - (i + r .taken) < length s - i
-    part-falls h =
-        let some : 0 < length (drop i s) = omega (arith, length-drop i s) in
-        omega (arith, part-taken, taken-some l (drop i s) (length buffer) h some)
+  pub listed-some : 35 ≤ length buffer → 0 < length s → 0 < r .taken
+  unfolding listOf
+  listed-some room some =
+      subst (λ (x : ListedInto). 0 < x .taken) (sym e) (taken-some l s (length buffer) room some)
+
+  pub listed-state : r .listing ≡ after l (take (r .taken) s)
+  listed-state = subst (λ (x : ListedInto). x .listing ≡ after l (taken s x)) (sym e) (call-state l s buffer)
+
+  pub listed-text : take (r .length) out ≡ textOf l (take (r .taken) s)
+  listed-text = subst (λ (x : ListedInto). text x ≡ textOf l (taken s x)) (sym e) (call-text l s buffer)
+
+  pub listed-fits : r .length ≤ length out
+  unfolding listOf
+  listed-fits =
+      subst (λ (x : ListedInto). x .length ≤ length (x .buffer)) (sym e)
+      (front-fits (textOf l (take (takenOf l s (length buffer)) s)) _)
 
 -- ---- a string as the feed finds it, from any state
 module _ (l : Listing) (frame : List ℕ) where

@@ -1,4 +1,3 @@
--- `list_times::write_start` is safe. Assumes nothing.
 use native.Mathlib.Omega.{arith}
 use mathlib.Core.Path.{sym}
 use borrow.Author.Needs.{needs}
@@ -10,7 +9,4 @@ slice-aggregate-write : tie.Need-slice-aggregate-write
 slice-aggregate-write c = sym (length-take-le _ _ (omega arith))
 
 pub write-start-spec : {M : Type 1} → statement M
-write-start-spec =
-    tie.close
-    (tie.spec (λ c κs. search needs) (λ c. search needs) slice-aggregate-write (λ c κs. search needs)
-    (λ c. search needs))
+write-start-spec = tie.close (tie.spec slice-aggregate-write (λ c κs. search needs) (λ c. search needs))

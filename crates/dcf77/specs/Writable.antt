@@ -1,5 +1,4 @@
--- What the writer goes by: which minutes have a run that is read as them, and marks as a number. No main result cites
--- it. Assumes nothing.
+-- Which minutes have a run that is read as them, and marks as a number. Assumes nothing.
 use Prim.Native.Nat.{ℕ, _<_, _^_}
 use mathlib.Core.Path.{_≡_}
 use mathlib.Core.Bool.{Bool, cond, not, _&&_}

@@ -3,8 +3,8 @@
 -- byte or number of the memory we lent." That a function ends, on any input, is part of every function's proof. The
 -- functions in src/ have these statements as their contracts.
 use Prim.Native.Nat.{ℕ, _^_}
-use mathlib.Core.Path.{_≡_, refl}
-use mathlib.Core.Bool.{Bool, true, not, _&&_}
+use mathlib.Core.Path.{refl}
+use mathlib.Core.Bool.{Bool, not, _&&_}
 use mathlib.Core.List.{List, [], _∷_, _++_}
 use lib.Dec.{leb, ltb}
 use lib.ListN.{length}
@@ -41,6 +41,8 @@ use Rattle.meinberg_gps.specs.Accepts.{AcceptsGps}
 use Rattle.elv_dcf7000.specs.Accepts.{AcceptsElv}
 use Rattle.dcf77.specs.Accepts.{AcceptsMinute}
 use Rattle.gps_position.specs.Position.{positionFault, positionOf, readPosition}
+use Rattle.gps_position.specs.Rules.{positionLines}
+use Rattle.gps_position.proofs.Theorems as positions
 use Rattle.time_string.specs.Kind.{kindOf, readAs}
 use Rattle.time_string.specs.declared.Kind.{Kind}
 use Rattle.time_string.specs.declared.Kind.the-variants.{Standard, Pzf, Gps, Elv}
@@ -55,7 +57,7 @@ use Rattle.radio_clock_readings.specs.Strings.{kindNumberOf, readInto, unixTime
 use Rattle.radio_clock_readings.specs.Minutes.{readMinuteInto}
 use Rattle.feed_state.specs.Feed.{FeedMemory, feedInto}
 use Rattle.demands.specs.Refusals.{tests, RefusesInOrder, RefusesAndKeeps, CallRefusesAndKeeps}
-use Rattle.demands.specs.Accepted.{AcceptsNumbers, AcceptsMinuteNumbers}
+use Rattle.demands.specs.Accepted.{AcceptsMinuteNumbers}
 use Rattle.demands.specs.Lines.{textOrder, minuteOrder, linesAs, kindLines, writerLines, outcomeLines}
 use Rattle.demands.specs.Lines.{fillLines, correctionLines, instantLines, dateLines, readLines, writeLines}
 use Rattle.demands.specs.Lines.{readMinuteLines, instantLinesOf, feedLines}
@@ -168,6 +170,11 @@ pub write-marks : (z : List ℤ) (d : List ℕ) →
     RefusesAndKeeps (writerLines (λ m. AcceptsMinuteNumbers m z) d) (23 ∷ 20 ∷ []) d (writeMinuteFrom z d)
 write-marks z d = writer-keeps (minute-settled z d)
 
+-- ---- the position of a GPS string
+pub read-position : (s : List ℕ) → RefusesInOrder (positionLines s) (9 ∷ []) (readPosition s)
+unfolding readPosition
+read-position s = ordered (positionOf s) (given 9 (positionFault s) ∷ []) _ (positions.agrees s) _ refl
+
 -- ---- from C: the status is 0 or the number of the refusal, which leaves all that was lent
 pub c-kind : (old : ℕ) (s : List ℕ) → CallRefusesAndKeeps (kindLines s) (1 ∷ []) old (answered old (kindNumberOf s))
 c-kind old s =
@@ -239,11 +246,6 @@ pub check-clock : (t : ClockTime) (mismatch : Bool) →
 unfolding clockChecks
 check-clock t mismatch = by-tests t (clockChecks t mismatch) _ refl
 
-pub read-position : (s : List ℕ) →
-    RefusesInOrder (tests (given 9 (positionFault s) ∷ [])) (9 ∷ []) (readPosition s)
-unfolding readPosition
-read-position s = by-tests (positionOf s) (given 9 (positionFault s) ∷ []) _ refl
-
 pub time-of : (z : List ℤ) →
     RefusesInOrder (tests (given 23 (not (fitsAll timeRanges z)) ∷ [])) (23 ∷ []) (timeOf z)
 unfolding numbered
@@ -297,7 +299,9 @@ unfolding writeLine
 write-line t d = write-bytes _ _ d
 
 pub write-totals : (t : Totals) (d : List ℕ) →
-    RefusesAndKeeps (tests (given 23 (not true) ∷ given 20 (ltb (length d) (length (totalsLine t))) ∷ []))
-    (23 ∷ 20 ∷ []) d (writeTotals t d)
-unfolding writeTotals
-write-totals t d = write-bytes _ _ d
+    RefusesAndKeeps (tests (given 20 (ltb (length d) (length (totalsLine t))) ∷ [])) (20 ∷ []) d (writeTotals t d)
+unfolding writeTotals writing
+write-totals t d = keeps (decided room _ _ _ _ _ (agree-tests room) refl)
+  where
+    room : List Check
+    room = given 20 (ltb (length d) (length (totalsLine t))) ∷ []

@@ -3,7 +3,7 @@
 -- room enough, a writer refuses a reading exactly when nothing acceptable in that format reads as it." The functions in
 -- src/ have these statements as their contracts.
 use Prim.Native.Nat.{ℕ, _≤_}
-use mathlib.Core.Path.{_≡_, refl, sym, ap, _∙_}
+use mathlib.Core.Path.{_≡_, ap, _∙_}
 use mathlib.Core.List.{List, _++_}
 use lib.ListN.{length, take, drop}
 use lib.IntN.{ℤ}
@@ -21,6 +21,9 @@ use Rattle.meinberg_pzf.proofs.Theorems as pzfs
 use Rattle.meinberg_gps.specs.Gps.{readGps, writeGps}
 use Rattle.meinberg_gps.specs.declared.GpsTime.{GpsTime}
 use Rattle.meinberg_gps.proofs.Theorems as gpss
+use Rattle.gps_position.specs.Position.{readPosition}
+use Rattle.gps_position.specs.Rules.{PositionRules, SaysPosition}
+use Rattle.gps_position.proofs.Theorems as positions
 use Rattle.elv_dcf7000.specs.Elv.{readElv, writeElv}
 use Rattle.elv_dcf7000.proofs.Theorems as elvs
 use Rattle.dcf77.specs.Minute.{readMinute, writeMinute}
@@ -104,6 +107,10 @@ day-number = days.day-number-exactly
 pub weekday : (year month day : ℕ)
     → ReadsExactly (λ w. OnWeekday year month day w × (year ≤ 2069)) (weekdayOf year month day)
 weekday = days.weekday-of-exactly
+
+-- ---- the position of a GPS string
+pub read-position : (s : List ℕ) → ReadsExactly (λ p. PositionRules s × SaysPosition s p) (readPosition s)
+read-position = positions.read-position-exactly
 
 -- ---- from C
 pub c-kind : (old : ℕ) (s : List ℕ)

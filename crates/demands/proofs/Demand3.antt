@@ -6,7 +6,7 @@
 -- new one. The count returned is exactly how many places of the sheet hold another number than before." `Corrected` has
 -- a named part for each of these sentences. The functions in src/ have these statements as their contracts.
 use Prim.Native.Nat.{ℕ, _<_, _≤_}
-use mathlib.Core.Path.{_≡_, refl, sym, ap, _∙_}
+use mathlib.Core.Path.{_≡_}
 use mathlib.Core.Logic.{_↔_}
 use mathlib.Core.List.{List}
 use lib.ListN.{length, set}
@@ -18,7 +18,7 @@ use Rattle.recording.specs.Gaps.{FirstGapAfter}
 use Rattle.recording.specs.Recording.{outcomeAt, fillOutcomes, recorded, correctMark}
 use Rattle.recording.proofs.Theorems as recordings
 use Rattle.recording.specs.SheetNumber.{RightFor}
-use Rattle.demands.specs.Corrections.{OutcomeAt}
+use Rattle.demands.specs.OutcomeAt.{OutcomeAt}
 use Rattle.demands.specs.Exactly.{ReadsExactly, CallAnswersExactly}
 use Rattle.demands.proofs.SheetLaws as sheets
 use Rattle.demands.proofs.ReaderLaws.{call-answers}

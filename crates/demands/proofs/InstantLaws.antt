@@ -1,16 +1,15 @@
 -- The instant of a reading's numbers: the first 14 are those of one valid reading or of none.
-use Prim.Native.Nat.{ℕ, _≤_, _<_}
-use native.Mathlib.Omega.{arith}
+use Prim.Native.Nat.{ℕ, _<_}
 use mathlib.Core.Path.{_≡_, refl, sym, ap, _∙_}
 use mathlib.Core.Logic.{_↔_}
-use mathlib.Core.Bool.{Bool, true, false, not, _&&_, _||_, false≢true, true≢false}
+use mathlib.Core.Bool.{Bool, true, false, not, _&&_, false≢true}
 use mathlib.Core.List.{List, [], _∷_, _++_, append-assoc}
-use lib.Dec.{eqb, lit<}
+use lib.Dec.{lit<}
 use lib.ListN.{length, take, drop, take-append-drop}
 use lib.Seq.{getD-take, take-at}
 use lib.IntN.{ℤ, pos}
 use borrow.Author.Tests.{eq-eqb}
-use Rattle.clock_time.specs.Errors.{Answer, accepted, refused, given, checked}
+use Rattle.clock_time.specs.Errors.{accepted, given, checked}
 use Rattle.clock_time.specs.Called.{called, answered}
 use Rattle.clock_time.specs.declared.ClockTime.{ClockTime}
 use Rattle.clock_time.proofs.ErrorLaws.{apart}
@@ -22,7 +21,7 @@ use Rattle.calendar.specs.UnixTime.{isValid, instantOf, unixTime}
 use Rattle.calendar.proofs.RulesLaws.{valid-exactly}
 use Rattle.gregorian.proofs.Theorems.{day-after-exactly}
 use Rattle.clock_numbers.specs.Numbers.{timeNumbers}
-use Rattle.clock_fields.specs.Ranges.{Range, within, timeRanges, fits, timeFrom, numbered, firstTimeOf}
+use Rattle.clock_fields.specs.Ranges.{Range, within, timeRanges, fits, timeFrom, numbered}
 use Rattle.clock_fields.proofs.BackLaws.{first-back}
 use Rattle.clock_fields.proofs.Theorems as fields
 use Rattle.time_string.specs.Kind.{Reading, readingTime}

@@ -3,15 +3,13 @@
 use Prim.Native.Nat.{ℕ, zero, suc, _≤_}
 use native.Mathlib.Omega.{arith}
 use mathlib.Core.Path.{_≡_, refl, sym, ap, subst, _∙_}
-use mathlib.Core.Logic.{_↔_}
 use mathlib.Core.Bool.{Bool, true, false}
-use mathlib.Core.List.{List, [], _∷_, _++_, append-nil}
-use lib.Dec.{lit≤}
+use mathlib.Core.List.{List, [], _++_, append-nil}
 use lib.ListN.{length}
-use lib.IntN.{ℤ, pos, negsuc, natAbs}
+use lib.IntN.{ℤ}
 use lib.Dec.{ltb}
 use borrow.Author.Tests.{ltb-true, ltb-false}
-use Rattle.clock_time.specs.Errors.{Answer, accepted, refused, given, checked}
+use Rattle.clock_time.specs.Errors.{Answer, accepted, refused}
 use Rattle.clock_time.specs.Exit.{exit}
 use Rattle.clock_time.specs.Called.{counted, leaving}
 use Rattle.clock_time.specs.Faithful.{Faithful}
@@ -21,29 +19,22 @@ use Rattle.clock_time.proofs.ErrorLaws.{apart}
 use Rattle.calendar.specs.Rules.{ValidReading}
 use Rattle.calendar.specs.UnixTime.{isValid}
 use Rattle.calendar.proofs.RulesLaws.{valid-exactly}
-use Rattle.meinberg_standard.specs.Standard.{readStandard, writeStandard}
-use Rattle.meinberg_standard.specs.Accepts.{AcceptsStandard}
+use Rattle.meinberg_standard.specs.Standard.{writeStandard}
 use Rattle.meinberg_standard.proofs.Theorems as standards
-use Rattle.meinberg_pzf.specs.Pzf.{readPzf, writePzf}
-use Rattle.meinberg_pzf.specs.Accepts.{AcceptsPzf}
+use Rattle.meinberg_pzf.specs.Pzf.{writePzf}
 use Rattle.meinberg_pzf.proofs.Theorems as pzfs
-use Rattle.meinberg_gps.specs.Gps.{readGps, writeGps}
-use Rattle.meinberg_gps.specs.declared.GpsTime.{GpsTime}
+use Rattle.meinberg_gps.specs.Gps.{writeGps}
 use Rattle.meinberg_gps.proofs.Theorems as gpss
-use Rattle.elv_dcf7000.specs.Elv.{readElv, writeElv}
+use Rattle.elv_dcf7000.specs.Elv.{writeElv}
 use Rattle.elv_dcf7000.proofs.Theorems as elvs
-use Rattle.dcf77.specs.Minute.{readMinute, writeMinute}
+use Rattle.dcf77.specs.Minute.{writeMinute}
 use Rattle.dcf77.specs.declared.MinuteTime.{MinuteTime}
 use Rattle.dcf77.proofs.Theorems as minutes
-use Rattle.meinberg_gps.specs.Accepts.{AcceptsGps}
-use Rattle.elv_dcf7000.specs.Accepts.{AcceptsElv}
-use Rattle.dcf77.specs.Accepts.{AcceptsMinute}
 use Rattle.time_string.specs.Kind.{Reading, time, timeAndPosition, readingTime}
 use Rattle.time_string.specs.declared.Kind.{Kind}
 use Rattle.time_string.specs.declared.Kind.the-variants.{Standard, Pzf, Gps, Elv}
 use Rattle.clock_numbers.specs.Numbers.{timeNumbers, gpsNumbers, minuteNumbers}
-use Rattle.clock_fields.specs.Ranges.{range, i16Range, i32Range, within, numbered, timeOf, gpsOf, minuteOf}
-use Rattle.clock_fields.specs.Held.{Holds, HoldsPosition}
+use Rattle.clock_fields.specs.Ranges.{numbered, timeOf, gpsOf, minuteOf}
 use Rattle.clock_fields.proofs.Theorems as fields
 use Rattle.fields_writer.specs.Writers.{writeAs, writeFrom, writeMinuteFrom}
 use Rattle.radio_clock_readings.specs.Strings.{kindNumber, readingNumbers}

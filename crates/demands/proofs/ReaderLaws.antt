@@ -1,17 +1,16 @@
 -- Which strings and runs are accepted, by kind and by what a call from C leaves.
-use Prim.Native.Nat.{ℕ, zero, suc, _≤_, _<_}
+use Prim.Native.Nat.{ℕ, zero, suc}
 use native.Mathlib.Decide.{decLe}
-use native.Mathlib.Nat.{lt-of-not-le, not-le-of-lt}
+use native.Mathlib.Nat.{lt-of-not-le}
 use native.Mathlib.Omega.{arith}
 use mathlib.Core.Path.{_≡_, refl, sym, ap, subst, _∙_}
-use mathlib.Core.Logic.{_↔_}
 use mathlib.Core.Bool.{Bool, true, false, cond}
-use mathlib.Core.List.{List, _++_}
+use mathlib.Core.List.{List}
 use lib.Dec.{eqb}
-use lib.ListN.{length, drop, getD}
+use lib.ListN.{length, getD}
 use lib.IntN.{ℤ}
 use Prim.Native.Char.{code}
-use borrow.Author.Tests.{eqb-true, eqb-false, eq-eqb, ne-eqb}
+use borrow.Author.Tests.{eqb-true, eqb-false, ne-eqb}
 use Rattle.clock_time.specs.Errors.{Answer, accepted, refused}
 use Rattle.clock_time.specs.Called.{Called, called, answered, left, andThen}
 use Rattle.clock_time.specs.declared.ClockTime.{ClockTime}
@@ -28,7 +27,7 @@ use Rattle.elv_dcf7000.proofs.Theorems as elvs
 use Rattle.time_string.specs.Kind.{Reading, time, timeAndPosition, plain, located, kindOf, readAs}
 use Rattle.time_string.specs.declared.Kind.{Kind}
 use Rattle.time_string.specs.declared.Kind.the-variants.{Standard, Pzf, Gps, Elv}
-use Rattle.clock_numbers.specs.Numbers.{putNumbers, putAnswer}
+use Rattle.clock_numbers.specs.Numbers.{putAnswer}
 use Rattle.clock_numbers.proofs.NumberLaws.{put-no-room, put-room}
 use Rattle.fields_writer.specs.Writers.{kindNamed}
 use Rattle.fields_writer.proofs.KindLaws.{kind-unknown}

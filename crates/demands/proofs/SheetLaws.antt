@@ -1,24 +1,17 @@
 -- Numbers at places of a tape in words, and what a call leaves as what its definition leaves.
-use Prim.Native.Nat.{ℕ, _≤_, _<_}
-use native.Mathlib.Omega.{arith}
+use Prim.Native.Nat.{ℕ, _<_}
 use mathlib.Core.Path.{_≡_, refl, sym, ap, _∙_}
-use mathlib.Core.Logic.{_↔_}
-use mathlib.Core.Bool.{Bool, true, false}
 use mathlib.Core.List.{List, [], _∷_}
 use lib.Dec.{leb, ltb}
-use lib.ListN.{length, getD}
+use lib.ListN.{length}
 use borrow.Author.Tests.{ltb-false, leb-false, le-ltb, lt-leb}
-use Rattle.clock_time.specs.Errors.{Answer, accepted, refused, given, checked}
+use Rattle.clock_time.specs.Errors.{Answer, accepted, refused, given}
 use Rattle.clock_time.specs.Exit.{Exit, exit}
 use Rattle.clock_time.specs.Called.{Called, called, statusOf, behind, left, counted}
 use Rattle.clock_time.proofs.ErrorLaws.{accepted-passes}
-use Rattle.recording.specs.Recording.{rule, outcomeAt, fillOutcomes, recorded, correctMark}
-use Rattle.recording.specs.declared.FillAnswer.{FillAnswer}
-use Rattle.recording.proofs.Theorems as recordings
-use Rattle.recording.specs.SheetNumber.{SheetNumber}
+use Rattle.recording.specs.Recording.{rule, outcomeAt, fillOutcomes, correctMark}
 use Rattle.recording.proofs.Theorems.{rule-in-words}
-use Rattle.recording.specs.SheetNumber.{RightFor}
-use Rattle.demands.specs.Corrections.{OutcomeAt}
+use Rattle.demands.specs.OutcomeAt.{OutcomeAt}
 use Rattle.demands.specs.Exactly.{ReadsExactly}
 use Rattle.demands.proofs.OrderLaws.{never-0}
 use Rattle.demands.proofs.Demand1 as demand-1
@@ -32,11 +25,11 @@ outcome-exactly marks place n = (
       (given 20 (ltb 100000 (length marks)) ∷ given 21 (leb (length marks) place) ∷ []) (rule marks place) n h in
       let within : place < length marks = leb-false _ _ (w .0 .1 .0) in
       record {
-        short = ltb-false _ _ (w .0 .0);
+        not-too-long = ltb-false _ _ (w .0 .0);
         within = within;
         number = rule-in-words marks place n .0 (sym (w .1));
       },
-  λ o. simp (le-ltb _ _ (o .short), lt-leb _ _ (o .within), rule-in-words marks place n .1 (o .number)),
+  λ o. simp (le-ltb _ _ (o .not-too-long), lt-leb _ _ (o .within), rule-in-words marks place n .1 (o .number)),
 )
 
 -- ---- what a call leaves

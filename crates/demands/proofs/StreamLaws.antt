@@ -30,6 +30,7 @@ lists l s buffer =
     record {
       within = listings.list-takes-within l s buffer;
       state = refl;
+      long = refl;
       text = call-text l s buffer;
       rest = drop-append-seam (textOf l (take (takenOf l s (length buffer)) s)) _;
       some = listings.list-takes-some l s buffer;
@@ -66,5 +67,5 @@ module _ (state : List ℕ) (taken event : ℕ) (s : List ℕ) (limit : ℕ) whe
         answer = feedOf (framerIn state) (take limit s) .answer;
         steps = rw (on .0, on .1) (framing.feed-by-steps (framerIn state) s limit);
         event = states.event-tells state taken event s limit room;
-        rest = states.feed-keeps-rest state taken event s limit room;
+        bytes = states.feed-bytes state taken event s limit room;
       })

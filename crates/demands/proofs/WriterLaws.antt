@@ -1,22 +1,20 @@
 -- What a writer leaves is settled by what is read as its value: for any format, and from the numbers that C has.
 use Prim.Native.Nat.{ℕ, suc, _≤_, _<_}
 use native.Mathlib.Decide.{decLe}
-use native.Mathlib.Nat.{lt-of-not-le, not-le-of-lt}
+use native.Mathlib.Nat.{lt-of-not-le}
 use native.Mathlib.Omega.{arith}
 use mathlib.Core.Path.{_≡_, refl, sym, ap, _∙_}
 use mathlib.Core.Logic.{_↔_, _⊎_, inl, inr, ⊎-elim}
-use mathlib.Core.Bool.{Bool, true, false, true≢false, false≢true}
+use mathlib.Core.Bool.{true, false, true≢false, false≢true}
 use mathlib.Core.List.{List, [], _∷_, _++_}
 use lib.ListN.{length, drop}
 use lib.IntN.{ℤ}
-use Rattle.clock_time.specs.Errors.{Answer, accepted, refused, Check, given, checked}
-use Rattle.clock_time.specs.Exit.{Exit, exit, leaves}
-use Rattle.clock_time.specs.Order.{Line, line}
-use Rattle.clock_time.specs.Called.{called, counted, leaving}
+use Rattle.clock_time.specs.Errors.{Answer, accepted, refused, given}
+use Rattle.clock_time.specs.Exit.{exit}
+use Rattle.clock_time.specs.Called.{counted, leaving}
 use Rattle.clock_time.specs.Faithful.{Faithful}
 use Rattle.clock_time.specs.Writing.{Outcome}
 use Rattle.clock_time.proofs.ErrorLaws.{apart}
-use Rattle.clock_time.proofs.OrderLaws.{Agree}
 use Rattle.demands.specs.Refusals.{RefusesAndKeeps}
 use Rattle.demands.specs.Lines.{writerLines}
 use Rattle.demands.specs.Exactly.{WritesExactly, CallWritesExactly}

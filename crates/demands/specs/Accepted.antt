@@ -24,7 +24,7 @@ TellsKind s Standard = (length s ≡ 32) × (getD s 1 0 ≡ code "D")
 TellsKind s Pzf = (length s ≡ 32) × (getD s 1 0 ≡ code "D" → ⊥)
 TellsKind s Elv = length s ≡ 21
 
--- a reading that comes of a value that is accepted
+-- a reading that comes from a value that is accepted
 abbrev pub Hands : {A : Type 0} → (A → Reading) → (A → Type 0) → Reading → Type 0
 Hands {A} say Accepts r = (a : A) × (Accepts a × (r ≡ say a))
 
@@ -40,10 +40,10 @@ AcceptsAs Elv s r = Hands time (AcceptsElv s) r
 abbrev pub AcceptsNumbered : ℕ → List ℕ → Reading → Type 0
 AcceptsNumbered n s r = (kind : Kind) × ((n ≡ kindNumber kind) × AcceptsAs kind s r)
 
--- a string of a kind is accepted as the reading that has these numbers
+-- a string of a kind is accepted as the reading that has these numbers and no more
 abbrev pub AcceptsNumbers : ℕ → List ℕ → List ℤ → Type 0
 AcceptsNumbers n s z = (r : Reading) × (AcceptsNumbered n s r × (z ≡ readingNumbers r))
 
--- a run of marks is accepted as the minute that has these numbers
+-- a run of marks is accepted as the minute that has these numbers and no more
 abbrev pub AcceptsMinuteNumbers : List ℕ → List ℤ → Type 0
 AcceptsMinuteNumbers m z = (a : MinuteTime) × (AcceptsMinute m a × (z ≡ minuteNumbers a))

@@ -1,4 +1,4 @@
--- Demand 2 of what a reader answers and of what a writer leaves, in the library and from C.
+-- Demand 2 of a reader's answer, and of a writer's answer with the buffer at exit, in the library and from C.
 use Prim.Native.Nat.{ℕ, suc, _≤_}
 use mathlib.Core.Path.{_≡_}
 use mathlib.Core.Logic.{_↔_}
@@ -15,12 +15,13 @@ use Rattle.clock_time.specs.Writing.{Outcome}
 abbrev pub ReadsExactly : {A : Type 0} → (A → Type 0) → Answer A → Type 0
 ReadsExactly {A} Accepts answer = (a : A) → (answer ≡ accepted a) ↔ Accepts a
 
--- what a writer leaves of a buffer; `Reads s` says that s is accepted as what was to be written
+-- a writer's answer and the buffer at exit; `Reads s` says that s is accepted as what was to be written
 pub record WritesExactly (Reads : List ℕ → Type 0) (buffer : List ℕ) (e : Outcome) : Type 0 where
-  -- "Written back, an accepted reading gives the same bytes or marks.", and nothing after them changes
+  -- "Written back, an accepted reading gives the same bytes or marks." (demand 2), and nothing after them changes
   pub written-back : (s : List ℕ) → Reads s → length s ≤ length buffer
       → e ≡ exit (accepted (length s)) (s ++ drop (length s) buffer)
   -- "Given room enough, a writer refuses a reading exactly when nothing acceptable in that format reads as it."
+  -- (demand 2)
   pub refused-exactly : ((s : List ℕ) → Reads s → length s ≤ length buffer)
       → ((k : ℕ) × (e .answer ≡ refused k)) ↔ ((s : List ℕ) → Reads s → ⊥)
 

@@ -9,8 +9,8 @@ use Rattle.calendar.specs.Rules.{ValidReading}
 use Rattle.gregorian.specs.Days.{DayAfter}
 use Rattle.clock_numbers.specs.Numbers.{timeNumbers}
 
--- "The instant is 86,400 × days since 1 January 1970 + 3,600 × hour + 60 × minute + second − 60 × offset." (01, The
--- reading)
+-- "The instant is 86,400 × days since 1 January 1970 + 3,600 × hour + 60 × minute + second − 60 × offset. It may be
+-- below zero: [..]. Second 60 has the instant of the second after it." (01, The reading)
 abbrev pub Instant : ClockTime → ℤ → Type 0
 Instant t z =
     (days : ℕ) × (
@@ -22,6 +22,6 @@ Instant t z =
 abbrev pub InstantOf : ClockTime → ℤ → Type 0
 InstantOf t z = ValidReading t × Instant t z
 
--- the same of the first 14 of some numbers
+-- the same of the first 14 of some numbers; numbers that are no reading's, such as a flag of 2, have no instant
 abbrev pub InstantOfNumbers : List ℤ → ℤ → Type 0
 InstantOfNumbers numbers z = (t : ClockTime) × ((take 14 numbers ≡ timeNumbers t) × InstantOf t z)

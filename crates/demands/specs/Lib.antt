@@ -1,9 +1,9 @@
 -- What the contracts speak of: refusals in an order, the lines of each entry, what is accepted and as what, the instant,
--- a sheet that is right, and what is taken of a stream.
+-- the number at a place, and what is taken of a stream.
 pub mod Refusals
 pub mod Accepted
 pub mod Lines
 pub mod Exactly
 pub mod Instant
-pub mod Corrections
+pub mod OutcomeAt
 pub mod Streams

@@ -19,7 +19,7 @@ use Rattle.dcf77.specs.Lines.{minuteLines}
 use Rattle.time_string.specs.declared.Kind.{Kind}
 use Rattle.time_string.specs.declared.Kind.the-variants.{Standard, Pzf, Gps, Elv}
 use Rattle.clock_numbers.specs.Numbers.{timeNumbers}
-use Rattle.demands.specs.Accepted.{AcceptsNumbers, AcceptsMinuteNumbers}
+use Rattle.demands.specs.Accepted.{AcceptsNumbers}
 
 -- ---- the orders
 -- "Order for text: 1, 2, 3, 4, 8, 9, 5, 6, 7." (01, Refusal numbers)
@@ -54,7 +54,8 @@ writerLines Reads buffer =
     ∷ []
 
 -- ---- recordings
--- 20: "tape over 100,000"; 21: "place at or past the tape's end" (01, Refusal numbers)
+-- 20: "tape over 100,000"; 21: "place at or past the tape's end" (01, Refusal numbers), in the order of a correction,
+-- since 01 gives none for it
 abbrev pub outcomeLines : List ℕ → ℕ → List Line
 outcomeLines marks place = line 20 (100000 < length marks) ∷ line 21 (length marks ≤ place) ∷ []
 
@@ -87,7 +88,7 @@ dateLines year month day = line 5 ((1970 ≤ year) × (year ≤ 2069) × Gregori
 abbrev pub unknownKind : ℕ → Line
 unknownKind n = line 1 (3 < n)
 
--- the kind that a number from 0 to 3 names
+-- the kind that a number from 0 to 3 names, in the order of 01's list
 abbrev pub namedKind : ℕ → Kind
 namedKind n = cond (eqb n 0) Standard (cond (eqb n 1) Pzf (cond (eqb n 2) Gps Elv))
 
@@ -102,11 +103,11 @@ numberCount Elv = 14
 abbrev pub roomFor : ℕ → List ℤ → Line
 roomFor count fields = line 20 (length fields < count)
 
--- the kind, the kind's reader, the room
+-- the kind, the kind's reader, the room: 01 gives no order for these, so 20 comes last as in a writer
 abbrev pub readLines : ℕ → List ℕ → List ℤ → List Line
 readLines n s fields = unknownKind n ∷ linesAs (namedKind n) s ++ (roomFor (numberCount (namedKind n)) fields ∷ [])
 
--- the kind, and then the lines of a writer of these numbers
+-- the kind, and then the lines of a writer of these numbers: without a kind there is no format that could refuse
 abbrev pub writeLines : ℕ → List ℤ → List ℕ → List Line
 writeLines n z buffer = unknownKind n ∷ writerLines (λ s. AcceptsNumbers n s z) buffer
 

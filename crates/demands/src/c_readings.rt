@@ -20,7 +20,7 @@ fn radio_clock_kind(s: &[u8], kind: &mut u8) -> u8
     ensures demand_1 { λ r. ⌜
         CallRefusesAndKeeps (kindLines (now (s .entry))) (1 ∷ []) (now (kind .entry)) (called r (now (kind .exit)))
         ⌝ }
-    ensures demand_2 { λ r. ⌜
+    ensures answer { λ r. ⌜
         CallAnswersExactly (λ n. (k : Kind) × (TellsKind (now (s .entry)) k × (n ≡ kindNumber k)))
         (called r (now (kind .exit)))
         ⌝ }
@@ -85,7 +85,7 @@ fn radio_clock_unix_time(fields: &[i32], time: &mut i64) -> u8
         CallRefusesAndKeeps (instantLinesOf (now (fields .entry))) (23 ∷ []) (now (time .entry))
         (called r (now (time .exit)))
         ⌝ }
-    ensures demand_2 { λ r. ⌜
+    ensures answer { λ r. ⌜
         CallAnswersExactly (InstantOfNumbers (now (fields .entry))) (called r (now (time .exit)))
         ⌝ }
 {

@@ -8,7 +8,7 @@ ghost use Rattle.recording.specs.Recording.{Recorded, recorded};
 ghost use Rattle.demands.specs.Refusals.{CallRefusesAndKeeps};
 ghost use Rattle.demands.specs.Lines.{outcomeLines, fillLines, correctionLines};
 ghost use Rattle.recording.specs.SheetNumber.{RightFor};
-ghost use Rattle.demands.specs.Corrections.{OutcomeAt};
+ghost use Rattle.demands.specs.OutcomeAt.{OutcomeAt};
 ghost use Rattle.demands.specs.Exactly.{CallAnswersExactly};
 
 fn radio_clock_outcome_at(marks: &[u8], place: usize, number: &mut u32) -> u8

@@ -14,21 +14,21 @@ ghost use Rattle.demands.specs.Exactly.{ReadsExactly};
 
 fn unix_time(t: ClockTime) -> UnixTime
     ensures demand_1 { λ r. ⌜ RefusesInOrder (instantLines t) (23 ∷ []) (unixTimeAnswer r) ⌝ }
-    ensures demand_2 { λ r. ⌜ ReadsExactly (InstantOf t) (unixTimeAnswer r) ⌝ }
+    ensures answer { λ r. ⌜ ReadsExactly (InstantOf t) (unixTimeAnswer r) ⌝ }
 {
     calendar::unix_time::unix_time(t)
 }
 
 fn day_number(year: u16, month: u8, day: u8) -> DateAnswer
     ensures demand_1 { λ r. ⌜ RefusesInOrder (dateLines year month day) (5 ∷ []) (dateAnswer r) ⌝ }
-    ensures demand_2 { λ r. ⌜ ReadsExactly (λ n. DayAfter n year month day × (year ≤ 2069)) (dateAnswer r) ⌝ }
+    ensures answer { λ r. ⌜ ReadsExactly (λ n. DayAfter n year month day × (year ≤ 2069)) (dateAnswer r) ⌝ }
 {
     calendar::date::day_number(year, month, day)
 }
 
 fn weekday_of(year: u16, month: u8, day: u8) -> DateAnswer
     ensures demand_1 { λ r. ⌜ RefusesInOrder (dateLines year month day) (5 ∷ []) (dateAnswer r) ⌝ }
-    ensures demand_2 { λ r. ⌜ ReadsExactly (λ w. OnWeekday year month day w × (year ≤ 2069)) (dateAnswer r) ⌝ }
+    ensures answer { λ r. ⌜ ReadsExactly (λ w. OnWeekday year month day w × (year ≤ 2069)) (dateAnswer r) ⌝ }
 {
     calendar::date::weekday_of(year, month, day)
 }

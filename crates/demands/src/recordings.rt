@@ -11,7 +11,7 @@ ghost use Rattle.recording.specs.Recording.{outcomeAnswer, fillAnswer, filling,
 ghost use Rattle.demands.specs.Refusals.{RefusesInOrder, RefusesAndKeeps};
 ghost use Rattle.demands.specs.Lines.{outcomeLines, fillLines, correctionLines};
 ghost use Rattle.recording.specs.SheetNumber.{RightFor};
-ghost use Rattle.demands.specs.Corrections.{OutcomeAt};
+ghost use Rattle.demands.specs.OutcomeAt.{OutcomeAt};
 ghost use Rattle.demands.specs.Exactly.{ReadsExactly};
 
 fn outcome_at(marks: &[u8], place: usize) -> OutcomeAnswer

@@ -8,7 +8,7 @@ ghost use mathlib.Core.Path.{_≡_};
 ghost use Rattle.framing.specs.Step.{stepped, stepOf};
 ghost use Rattle.framing.specs.Feed.{fed};
 ghost use Rattle.framing.specs.Steps.{BySteps};
-ghost use Rattle.listing.specs.Listing.{listedInto};
+ghost use Rattle.listing.specs.Listing.{listedInto, listOf};
 ghost use Rattle.demands.specs.Streams.{FewBytes, Lists};
 
 fn step(f: Framer, b: u8) -> Step
@@ -26,7 +26,8 @@ fn feed(f: Framer, s: &[u8], limit: usize) -> Fed
 }
 
 fn list(l: Listing, s: &[u8], out: &mut [u8]) -> Listed
-    ensures { λ r. ⌜ Lists l (now (s .entry)) (now (out .entry)) (listedInto r (now (out .exit))) ⌝ }
+    ensures answer { λ r. ⌜ listedInto r (now (out .exit)) ≡ listOf l (now (s .entry)) (now (out .entry)) ⌝ }
+    ensures lists { λ r. ⌜ Lists l (now (s .entry)) (now (out .entry)) (listedInto r (now (out .exit))) ⌝ }
 {
     l.list(s, out)
 }

@@ -27,7 +27,7 @@ ghost use Rattle.demands.specs.Exactly.{ReadsExactly, WritesExactly};
 
 fn kind_of(s: &[u8]) -> KindAnswer
     ensures demand_1 { λ r. ⌜ RefusesInOrder (kindLines (now (s .entry))) (1 ∷ []) (kindAnswer r) ⌝ }
-    ensures demand_2 { λ r. ⌜ ReadsExactly (TellsKind (now (s .entry))) (kindAnswer r) ⌝ }
+    ensures answer { λ r. ⌜ ReadsExactly (TellsKind (now (s .entry))) (kindAnswer r) ⌝ }
 {
     time_string::kind_of(s)
 }

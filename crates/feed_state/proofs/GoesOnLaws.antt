@@ -1,15 +1,14 @@
 -- Calls of the feed go on where the last one stopped. Assumes nothing.
 use Prim.Native.Nat.{ℕ, _≤_}
 use native.Mathlib.Omega.{arith}
-use mathlib.Core.Path.{_≡_, refl, _∙_}
+use mathlib.Core.Path.{_≡_, refl, ap}
 use mathlib.Core.List.{List, _++_}
-use lib.ListN.{length, take, drop, replicate, length-append}
-use lib.Seq.{length-take-le, drop-at}
+use lib.ListN.{length, take, drop, replicate}
+use lib.Seq.{length-take-le}
 use borrow.Author.Tests.{le-ltb}
-use Rattle.framing.specs.declared.Framer.{Framer}
 use Rattle.framing.specs.Step.{start}
 use Rattle.framing.specs.Feed.{feedOf}
-use Rattle.feed_state.specs.Feed.{modeOf, framerIn, stateBytes, eventNumber, feedMemory, feedInto}
+use Rattle.feed_state.specs.Feed.{modeOf, framerIn, stateBytes, eventNumber, FeedMemory, feedMemory, feedInto}
 use Rattle.feed_state.proofs.StateLaws.{state-back}
 use Rattle.feed_state.proofs.FeedLaws.{feed-whole}
 
@@ -41,14 +40,9 @@ feed-goes-on state taken event s limit room =
       refl,
     )
 
-state-long : (f : Framer) → length (f .bytes) ≡ 66 → length (stateBytes f) ≡ 68
-unfolding stateBytes
-state-long f h = length-append (f .bytes) _ ∙ rw h
-
-pub feed-rest : (state : List ℕ) (taken event : ℕ) (s : List ℕ) (limit : ℕ) → 68 ≤ length state
-    → drop 68 (feedInto (feedMemory state taken event) s limit .memory .state) ≡ drop 68 state
-feed-rest state taken event s limit room =
-    let r = feedOf (framerIn state) (take limit s) in
-    let whole = feed-whole (take limit s) (framerIn state) (state-whole state room) in
-    rw (feed-room state taken event s limit room)
-    (drop-at (stateBytes (r .framer)) (drop 68 state) 68 (state-long (r .framer) whole))
+pub feed-bytes : (state : List ℕ) (taken event : ℕ) (s : List ℕ) (limit : ℕ) → 68 ≤ length state
+    → let after = feedInto (feedMemory state taken event) s limit .memory .state in
+    after ≡ stateBytes (framerIn after) ++ drop 68 state
+feed-bytes state taken event s limit room =
+    rw (feed-goes-on state taken event s limit room .0)
+    (ap (λ (m : FeedMemory). m .state) (feed-room state taken event s limit room))

@@ -30,10 +30,11 @@ pub feed-goes-on : (state : List ℕ) (taken event : ℕ) (s : List ℕ) (limit 
     × (after .event ≡ eventNumber (feedOf (framerIn state) (take limit s) .answer))
 feed-goes-on = goes.feed-goes-on
 
--- and bytes after the 68th stay
-pub feed-keeps-rest : (state : List ℕ) (taken event : ℕ) (s : List ℕ) (limit : ℕ) → 68 ≤ length state
-    → drop 68 (feedInto (feedMemory state taken event) s limit .memory .state) ≡ drop 68 state
-feed-keeps-rest = goes.feed-rest
+-- and the bytes that it leaves are those of that state, with what was lent after the 68th
+pub feed-bytes : (state : List ℕ) (taken event : ℕ) (s : List ℕ) (limit : ℕ) → 68 ≤ length state
+    → let after = feedInto (feedMemory state taken event) s limit .memory .state in
+    after ≡ stateBytes (framerIn after) ++ drop 68 state
+feed-bytes = goes.feed-bytes
 
 -- what the call leaves behind `event` tells C, from any state, what the last byte taken ended: 0 nothing, 1 to 66 a
 -- complete string of so many bytes, 255 an overlong one

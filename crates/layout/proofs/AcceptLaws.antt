@@ -1,21 +1,31 @@
 -- A string is read exactly if it passes every check of its format, in whatever order. Assumes nothing.
-use Prim.Native.Nat.{ℕ}
+use Prim.Native.Nat.{ℕ, _≤_}
 use mathlib.Core.Path.{_≡_, refl}
 use mathlib.Core.Bool.{Bool, true, false, _||_, true≢false}
 use mathlib.Core.List.{List}
 use lib.Dec.{lit<}
 use borrow.Author.Tests.{not-false, eqb-true, eq-eqb, leb-true, le-leb}
 use Rattle.clock_time.specs.Errors.{accepted}
+use Rattle.clock_time.specs.declared.ClockTime.{ClockTime}
 use Rattle.clock_time.proofs.ErrorLaws.{accepted-passes, passes-accepted}
 use Rattle.clock_time.proofs.Tests.{both}
-use Rattle.layout.specs.Layout.{found}
+use Rattle.gregorian.specs.Date.{dateExists}
+use Rattle.calendar.specs.TimeOfDay.{timeExists}
+use Rattle.layout.specs.Layout.{found, FitsLayout}
 use Rattle.layout.specs.Text.{Format, clockChecks, textChecks, readText}
-use Rattle.layout.specs.Accepts.{AcceptsClock}
 use Rattle.layout.proofs.LayoutLaws.{none-found, fits-found}
+
+-- a string with the layout l whose fields say the clock time t passes the checks that all formats share
+pub record PassesClock (l : List ℕ) (t : ClockTime) (s : List ℕ) : Type 0 where
+  pub fits : FitsLayout l s
+  pub date : dateExists (t .year) (t .month) (t .day) ≡ true
+  pub time : timeExists (t .hour) (t .minute) (t .second) (t .«utc_offset») ≡ true
+  pub monday : 1 ≤ t .weekday
+  pub sunday : t .weekday ≤ 7
 
 -- a string that passes: the rules that all formats share hold of it, and the format's own tests find no fault
 pub record PassesText {A : Type 0} (f : Format A) (s : List ℕ) : Type 0 where
-  pub clock : AcceptsClock (f .layout) (f .clock (f .fields s)) s
+  pub clock : PassesClock (f .layout) (f .clock (f .fields s)) s
   pub flags : f .flagFault s ≡ false
   pub offset : f .offsetFault s ≡ false
   pub position : f .positionFault s ≡ false

@@ -1,6 +1,6 @@
 -- The main results, for any format: which strings are accepted, which are refused, and what is written.
 use Prim.Native.Nat.{ℕ}
-use mathlib.Core.Path.{_≡_, _∙_}
+use mathlib.Core.Path.{_≡_}
 use mathlib.Core.Logic.{_↔_}
 use mathlib.Core.Bool.{true, false}
 use mathlib.Core.List.{List}
@@ -14,17 +14,9 @@ use Rattle.calendar.specs.Rules.{ReadingRules}
 use Rattle.layout.specs.Text.{Format, clockFormat, textChecks, readText, writeText}
 use Rattle.layout.specs.Picture.{Place, AsDrawn}
 use Rattle.layout.specs.Lines.{OwnFaults, noFaults, textLines}
-use Rattle.layout.proofs.AcceptLaws.{PassesText, read-passes, passes-read}
+use Rattle.layout.proofs.AcceptLaws.{PassesText, read-passes}
 use Rattle.layout.proofs.ExactLaws.{InWords, NoRules, fits-drawn, legible, read-says, says-read}
 use Rattle.layout.proofs.LinesLaws.{agrees}
-
-module _ {A : Type 0} (f : Format A) (Rules : List ℕ → Type 0) (rules : (s : List ℕ) → Rules s ↔ PassesText f s) where
-  -- a string is read as a value exactly if the format's rules hold of it and the value is what its fields say
-  pub accepted-exactly : (s : List ℕ) (a : A) → (readText f s ≡ accepted a) ↔ (Rules s × (a ≡ f .fields s))
-  accepted-exactly s a = (
-    λ h. let r = read-passes f s a h in (rules s .1 (r .0), r .1),
-    λ r. passes-read f s (rules s .0 (r .0)) ∙ rw (r .1),
-  )
 
 module _
     {A : Type 0} {f : Format A} {p : List Place} {own : OwnFaults} {Rules : List ℕ → Type 0}

@@ -3,7 +3,6 @@ pub mod Ascii
 pub mod Layout
 pub mod Words
 pub mod Text
-pub mod Accepts
 pub mod Picture
 pub mod Says
 pub mod Lines

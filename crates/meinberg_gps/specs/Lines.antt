@@ -7,7 +7,8 @@ use Rattle.gps_position.specs.Rules.{PositionRules}
 use Rattle.meinberg_gps.specs.Says.{gpsPicture, SaysGps, OffsetRules, LeapLetter}
 
 -- 8: "offset sign or size"; 9: "position" (01, Refusal numbers); "b must be `L` exactly if the second is 60 (wrong
--- letter 4, mismatch 6)." (01, Meinberg and ELV strings)
+-- letter 4, mismatch 6)."; "All faults in 41..63 but the fixed bytes at 43, 49, 53 and 59 are 9." (01, Meinberg and ELV
+-- strings)
 abbrev pub gpsFaults : OwnFaults
 gpsFaults =
     record {

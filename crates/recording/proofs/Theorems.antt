@@ -49,7 +49,7 @@ module _ (marks outcomes : List ℕ) (place mark : ℕ) (marks′ outcomes′ : 
       → count ≡ differences outcomes outcomes′
   count-exact count h = demand-3 count h .counted
 
-  -- "A refusal [..] changes no byte or number of the memory lent." (demand 1)
+  -- "A refusal [..] changes no byte or number of the memory we lent." (demand 1)
   pub refused-correction-changes-nothing : (e : Error)
       → correction (CorrectAnswer.Refused e) marks′ outcomes′ ≡ correctMark marks outcomes place mark
       → (marks′ ≡ marks) × (outcomes′ ≡ outcomes)

@@ -1,4 +1,4 @@
--- The sheet's rule in words, with no function of the code's in them.
+-- The sheet's rule in words, with none of the code's functions in them.
 use Prim.Native.Nat.{ℕ, _<_}
 use mathlib.Core.Path.{_≡_}
 use mathlib.Core.List.{List}

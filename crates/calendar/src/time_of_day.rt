@@ -15,12 +15,9 @@ fn utc_minute(hour: u8, minute: u8, offset: i16) -> u32
 pub fn time_exists(hour: u8, minute: u8, second: u8, offset: i16) -> bool
     ensures { λ r. ⌜ r ≡ timeExists hour minute second offset ⌝ }
 {
-    if (hour < 24) & (minute < 60) {
-        if second < 60 {
-            return true;
-        }
-        let utc = utc_minute(hour, minute, offset);
-        return (second == 60) & (utc == 1439);
+    if second < 60 {
+        return (hour < 24) & (minute < 60);
     }
-    false
+    let utc = utc_minute(hour, minute, offset);
+    (hour < 24) & (minute < 60) & (second == 60) & (utc == 1439)
 }

@@ -27,9 +27,8 @@ pub fn is_valid(t: ClockTime) -> bool
     ensures { λ r. ⌜ r ≡ isValid t ⌝ }
 {
     if gregorian::is_known_date(t.year, t.month, t.day) {
-        if time_of_day::time_exists(t.hour, t.minute, t.second, t.utc_offset) {
-            let offset = offset_in_range(t.utc_offset);
-            return (1 <= t.weekday) & (t.weekday <= 7) & offset;
+        if (1 <= t.weekday) & (t.weekday <= 7) & offset_in_range(t.utc_offset) {
+            return time_of_day::time_exists(t.hour, t.minute, t.second, t.utc_offset);
         }
         return false;
     }

@@ -33,26 +33,33 @@ pub fn line_of(t: ClockTime) -> LineBytes
 {
     let zone = meinberg_gps_writer::parts::offset_text(t.utc_offset);
     let flags = flags_text(t);
+    let century = decimal::pair(t.year as u32 / 10 / 10);
+    let year = decimal::pair(t.year as u32);
+    let month = decimal::pair(t.month as u32);
+    let day = decimal::pair(t.day as u32);
+    let hour = decimal::pair(t.hour as u32);
+    let minute = decimal::pair(t.minute as u32);
+    let second = decimal::pair(t.second as u32);
     [
-        (48 + t.year / 10 / 10 / 10 % 10) as u8,
-        (48 + t.year / 10 / 10 % 10) as u8,
-        (48 + t.year / 10 % 10) as u8,
-        (48 + t.year % 10) as u8,
+        (century % 256) as u8,
+        (century / 256) as u8,
+        (year % 256) as u8,
+        (year / 256) as u8,
         b'-',
-        48 + t.month / 10 % 10,
-        48 + t.month % 10,
+        (month % 256) as u8,
+        (month / 256) as u8,
         b'-',
-        48 + t.day / 10 % 10,
-        48 + t.day % 10,
+        (day % 256) as u8,
+        (day / 256) as u8,
         b' ',
-        48 + t.hour / 10 % 10,
-        48 + t.hour % 10,
+        (hour % 256) as u8,
+        (hour / 256) as u8,
         b':',
-        48 + t.minute / 10 % 10,
-        48 + t.minute % 10,
+        (minute % 256) as u8,
+        (minute / 256) as u8,
         b':',
-        48 + t.second / 10 % 10,
-        48 + t.second % 10,
+        (second % 256) as u8,
+        (second / 256) as u8,
         b' ',
         zone[0],
         zone[1],

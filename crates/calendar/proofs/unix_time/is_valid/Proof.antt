@@ -1,6 +1,7 @@
 -- `calendar::unix_time::is_valid` meets its contract. Assumes nothing.
 use borrow.Author.Needs.{needs, sfits-of}
 use mathlib.Core.Path.{sym, _∙_}
+use mathlib.Core.Bool.{and-true, and-false, and-assoc}
 use mir.Syntax.{w16}
 use mir.Val.{SFits}
 use mir.Facts.{toZ-ofZ}
@@ -14,22 +15,22 @@ offset-fits c = search sfits-of
 returns : tie.Need-returns
 unfolding isValid
 returns c =
-    let offset = c .before .before in
-    let time = offset .before .before in
-    let date = time .before .before .before in
+    let rest = c .before .before in
+    let offset = rest .before in
+    let date = offset .before .before .before .before in
     let f = offset-fits (date .before .before) in
-    let exists = rw (toZ-ofZ f) at (sym (time .before .time-exists .ensures) ∙ time .if2 .taken) in
+    let rest-holds = rw (offset .offset-in-range .ensures, toZ-ofZ f, and-assoc) at (rest .if2 .taken) in
     let known = sym (date .before .is-known-date .ensures) ∙ date .if1 .taken in
-    simp (toZ-ofZ f, offset .offset-in-range .ensures, exists, known)
+    simp (c .time-exists .ensures, toZ-ofZ f, and-assoc, known, rest-holds, and-true)
 
 returns-2 : tie.Need-returns-2
 unfolding isValid
 returns-2 c =
-    let date = c .before .before .before in
+    let offset = c .before in
+    let date = offset .before .before .before .before in
     let f = offset-fits (date .before .before) in
-    let exists = rw (toZ-ofZ f) at (sym (c .before .time-exists .ensures) ∙ c .if2 .left) in
-    let known = sym (date .before .is-known-date .ensures) ∙ date .if1 .taken in
-    simp (exists, known)
+    let rest-fails = rw (offset .offset-in-range .ensures, toZ-ofZ f, and-assoc) at (c .if2 .left) in
+    simp (and-assoc, rest-fails, and-false)
 
 returns-3 : tie.Need-returns-3
 unfolding isValid

@@ -6,6 +6,7 @@ use mir.Val.{SFits}
 use mir.Facts.{toZ-ofZ}
 use borrow.Author.Needs.{sfits-of}
 use Rattle.decimal.specs.Decimal.{digits}
+use Rattle.decimal.proofs.PairLaws.{first-byte, second-byte}
 use Rattle.layout.specs.Ascii.{ascii}
 use Rattle.listing_lines.specs.Line.{lineWith}
 use Rattle.listing_lines.proofs.LineLaws.{line-parts}
@@ -18,18 +19,36 @@ offset-fits c = search sfits-of
 returns : tie.Need-returns
 unfolding lineWith digits ascii
 returns c =
-    let f = c .before .before .before .before .before .before .before .before .before .before .before .before .before
-    .before in
-    let x = f .before .before .before in
-    let zone = rw (toZ-ofZ (offset-fits x)) at (f .before .offset-text .ensures) in
-    line-parts (x .args .t) zone (f .flags-text .ensures)
+    let minute = c .before .before in
+    let hour = minute .before .before in
+    let day = hour .before .before in
+    let month = day .before .before in
+    let year = month .before .before in
+    let century = year .before .before in
+    let flags = century .before .before in
+    let x = flags .before .before .before in
+    let zone = rw (toZ-ofZ (offset-fits x)) at (flags .before .offset-text .ensures) in
+    simp (
+      c .pair7 .ensures,
+      minute .pair6 .ensures,
+      hour .pair5 .ensures,
+      day .pair4 .ensures,
+      month .pair3 .ensures,
+      year .pair2 .ensures,
+      century .pair .ensures,
+      first-byte,
+      second-byte,
+    )
+    (line-parts (x .args .t) zone (flags .flags-text .ensures))
 
 pub line-of-spec : {M : Type 1} → statement M
 line-of-spec =
     tie.close
-    (tie.spec (λ c κs. search needs) (λ c κs. search needs) (λ c. search needs) (λ c. search needs) (λ c. search needs)
+    (tie.spec (λ c κs. search needs) (λ c κs. search needs) (λ c. search needs) (λ c κs. search needs)
+    (λ c. search needs) (λ c κs. search needs) (λ c. search needs) (λ c κs. search needs) (λ c. search needs)
+    (λ c κs. search needs) (λ c. search needs) (λ c κs. search needs) (λ c. search needs) (λ c κs. search needs)
+    (λ c. search needs) (λ c κs. search needs) (λ c. search needs) (λ c. search needs) (λ c. search needs)
     (λ c. search needs) (λ c. search needs) (λ c. search needs) (λ c. search needs) (λ c. search needs)
     (λ c. search needs) (λ c. search needs) (λ c. search needs) (λ c. search needs) (λ c. search needs)
-    (λ c. search needs) (λ c. search needs) (λ c. search needs) (λ c. search needs) (λ c. search needs) (λ c. lit< tt)
-    (λ c. lit< tt) (λ c. lit< tt) (λ c. lit< tt) (λ c. lit< tt) (λ c. lit< tt) (λ c. lit< tt) (λ c. lit< tt)
-    (λ c. lit< tt) (λ c. lit< tt) (λ c. lit< tt) (λ c. lit< tt) (λ c. lit< tt) returns)
+    (λ c. search needs) (λ c. lit< tt) (λ c. lit< tt) (λ c. lit< tt) (λ c. lit< tt) (λ c. lit< tt) (λ c. lit< tt)
+    (λ c. lit< tt) (λ c. lit< tt) (λ c. lit< tt) (λ c. lit< tt) (λ c. lit< tt) (λ c. lit< tt) (λ c. lit< tt) returns)

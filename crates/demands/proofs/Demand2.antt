@@ -6,12 +6,14 @@ use Prim.Native.Nat.{ℕ, _≤_}
 use mathlib.Core.Path.{_≡_, ap, _∙_}
 use mathlib.Core.List.{List, _++_}
 use lib.ListN.{length, take, drop}
-use lib.IntN.{ℤ}
+use lib.IntN.{ℤ, pos, _*ℤ_}
 use lib.Seq.{take-at}
 use Rattle.clock_time.specs.Called.{called, answered, left, counted}
 use Rattle.clock_time.specs.declared.ClockTime.{ClockTime}
 use Rattle.gregorian.specs.Date.{dayNumber, weekdayOf}
 use Rattle.calendar.specs.UnixTime.{instantOf, unixTime}
+use Rattle.calendar.proofs.RulesLaws.{valid-exactly}
+use Rattle.calendar.proofs.Theorems as calendars
 use Rattle.meinberg_standard.specs.Standard.{readStandard, writeStandard}
 use Rattle.meinberg_standard.specs.Accepts.{AcceptsStandard}
 use Rattle.meinberg_standard.proofs.Theorems as standards
@@ -165,3 +167,11 @@ pub c-instant-read : (n : ℕ) (s : List ℕ) (fields z : List ℤ) → left (re
 c-instant-read n s fields z h old =
     let r = c-read n s fields z .0 h in
     (r .0, (r .1 .0, instants.instant-left n s (r .0) (r .1 .0) z _ (r .1 .2) old))
+
+-- "Second 60 has the instant of the second after it." (01, The reading): an accepted second 60 has an instant divisible
+-- by 86,400, since that second starts a day in UTC
+pub c-second-60 : (n : ℕ) (s : List ℕ) (r : Reading) → AcceptsNumbered n s r → readingTime r .second ≡ 60
+    → (z : ℤ) → InstantOf (readingTime r) z → (days : ℤ) × (z ≡ pos 86400 *ℤ days)
+c-second-60 n s r h sixty z i =
+    let midnight = calendars.second-60-midnight (readingTime r) (valid-exactly _ .1 (i .0)) sixty in
+    (midnight .0, instants.instant-exactly (readingTime r) (i .0) z .1 (i .1) ∙ midnight .1)

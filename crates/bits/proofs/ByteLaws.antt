@@ -1,4 +1,4 @@
--- Numbers made of a byte and what stands above it. Assumes nothing.
+-- Numbers made of a byte and what stands above it.
 use Prim.Native.Nat.{ℕ, zero, suc, _+_, _*_, _<_}
 use native.Mathlib.Nat.{add-suc}
 use native.Mathlib.Numerals.{add-one}

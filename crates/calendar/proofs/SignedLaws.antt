@@ -1,5 +1,5 @@
 -- Laws of signed numbers: what a wider width holds, how large a difference and a product are, and the remainder of a
--- difference, taken above zero. Assumes nothing.
+-- difference, taken above zero.
 use Prim.Native.Nat.{ℕ, zero, suc, _+_, _-_, _*_, _%_, _≤_, _<_}
 use native.Mathlib.Nat.{mul-le-mul-left}
 use native.Mathlib.Omega.{arith}

@@ -1,4 +1,4 @@
--- What a valid reading has, and when a reading with a year of two digits is one. Assumes nothing.
+-- What a valid reading has, and when a reading with a year of two digits is one.
 use Prim.Native.Nat.{ℕ, _%_, _≤_, _<_}
 use native.Mathlib.Omega.{arith}
 use mathlib.Core.Path.{_≡_, refl}

@@ -1,4 +1,4 @@
--- The time of day, with second 60. Assumes nothing.
+-- The time of day, with second 60.
 use Prim.Native.Nat.{ℕ, _+_, _-_, _*_, _%_}
 use mathlib.Core.Bool.{Bool, _&&_, _||_}
 use lib.Dec.{ltb, eqb}

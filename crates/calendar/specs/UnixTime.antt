@@ -1,4 +1,4 @@
--- Unix time: the paper's instant. Assumes nothing.
+-- Unix time: the paper's instant.
 use Prim.Native.Nat.{_+_, _*_}
 use mathlib.Core.Bool.{Bool, not, _&&_}
 use mathlib.Core.List.{[], _∷_}

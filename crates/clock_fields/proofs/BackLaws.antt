@@ -1,4 +1,4 @@
--- The numbers of a reading fit their ranges, and stand for that reading. Assumes nothing.
+-- The numbers of a reading fit their ranges, and stand for that reading.
 use Prim.Native.Nat.{ℕ, _≤_}
 use native.Mathlib.Omega.{arith}
 use mathlib.Core.Path.{_≡_, refl, sym, _∙_}

@@ -1,4 +1,4 @@
--- Laws of numbers in ranges: what fits, place by place and step by step. Assumes nothing.
+-- Laws of numbers in ranges: what fits, place by place and step by step.
 use Prim.Native.Nat.{ℕ, zero, suc, _^_, _≤_, _<_}
 use native.Mathlib.Omega.{arith}
 use mathlib.Core.Path.{_≡_, refl}

@@ -1,4 +1,4 @@
--- The main results: numbers and readings stand for one another, and nothing is lost on the way. Assumes nothing.
+-- The main results: numbers and readings stand for one another, and nothing is lost on the way.
 use Prim.Native.Nat.{_≤_}
 use mathlib.Core.Path.{_≡_}
 use mathlib.Core.List.{List}

@@ -1,4 +1,4 @@
--- Numbers that stand for a reading are that reading's. Assumes nothing.
+-- Numbers that stand for a reading are that reading's.
 use Prim.Native.Nat.{ℕ, zero, suc, _<_}
 use native.Mathlib.Omega.{arith}
 use mathlib.Core.Path.{_≡_, refl, ap, _∙_}

@@ -1,4 +1,4 @@
--- Which readings the theorems speak of. Assumes nothing.
+-- Which readings the theorems speak of.
 use Prim.Native.Nat.{_≤_}
 use mathlib.Core.Path.{_≡_}
 use mathlib.Core.Bool.{true}

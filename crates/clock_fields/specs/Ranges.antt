@@ -1,4 +1,4 @@
--- The numbers that each place of an array may hold, and the reading that they stand for. Assumes nothing.
+-- The numbers that each place of an array may hold, and the reading that they stand for.
 use Prim.Native.Nat.{ℕ}
 use mathlib.Core.Bool.{Bool, true, false, not, _&&_}
 use mathlib.Core.List.{List, [], _∷_, _++_}

@@ -1,4 +1,4 @@
--- Laws of readings as numbers, and of putting them into lent memory. Assumes nothing.
+-- Laws of readings as numbers, and of putting them into lent memory.
 use Prim.Native.Nat.{_^_, _≤_, _<_}
 use mathlib.Core.Path.{_≡_, _∙_}
 use mathlib.Core.List.{List, _++_}

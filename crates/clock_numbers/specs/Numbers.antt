@@ -1,4 +1,4 @@
--- Readings as the numbers that C has, in their order, and how they are put into lent memory. Assumes nothing.
+-- Readings as the numbers that C has, in their order, and how they are put into lent memory.
 use mathlib.Core.Bool.{Bool, cond}
 use mathlib.Core.List.{List, [], _∷_, _++_}
 use lib.Dec.{ltb}

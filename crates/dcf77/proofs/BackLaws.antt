@@ -1,4 +1,4 @@
--- An accepted run of marks is the one that its fields are written as. Assumes nothing.
+-- An accepted run of marks is the one that its fields are written as.
 use Prim.Native.Nat.{ℕ, _+_, _/_, _%_, _≤_, _<_}
 use native.Mathlib.Omega.{arith}
 use native.Mathlib.Decide.{ℕ-discrete}

@@ -1,4 +1,4 @@
--- Marks and the bits of their numbers, over any number of marks. Assumes nothing.
+-- Marks and the bits of their numbers, over any number of marks.
 use Prim.Native.Nat.{ℕ, zero, suc, _+_, _*_, _/_, _%_, _^_, _≤_, _<_}
 use native.Mathlib.Nat.{zero-add, add-zero, add-suc, suc-add, add-comm, pow-succ'}
 use native.Mathlib.Numerals.{add-one}

@@ -1,4 +1,4 @@
--- The checks of a minute: that of its length, and the others by parts, as the code goes through them. Assumes nothing.
+-- The checks of a minute: that of its length, and the others by parts, as the code goes through them.
 use Prim.Native.Nat.{ℕ, suc, _≤_}
 use native.Mathlib.Omega.{arith}
 use mathlib.Core.Path.{_≡_, refl, sym, _∙_}

@@ -1,4 +1,4 @@
--- What is known of a minute whose fields pass the writer's test. Assumes nothing.
+-- What is known of a minute whose fields pass the writer's test.
 use Prim.Native.Nat.{ℕ, _≤_, _<_}
 use mathlib.Core.Path.{_≡_, ap}
 use mathlib.Core.Bool.{Bool, true, false, cond, not, _&&_, false≢true}

@@ -1,4 +1,4 @@
--- The line of 60 marks that a minute's run is a part of. Assumes nothing.
+-- The line of 60 marks that a minute's run is a part of.
 use Prim.Native.Nat.{_+_}
 use mathlib.Core.Path.{_≡_, refl}
 use mathlib.Core.Bool.{Bool, true, false, cond}

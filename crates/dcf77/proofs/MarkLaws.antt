@@ -1,4 +1,4 @@
--- Laws of marks as numbers, over any number of marks. Assumes nothing.
+-- Laws of marks as numbers, over any number of marks.
 use Prim.Native.Nat.{ℕ, zero, suc, _+_, _-_, _*_, _/_, _%_, _^_, _≤_, _<_}
 use native.Mathlib.Nat.{add-zero, zero-add, add-suc, suc-add, add-comm}
 use native.Mathlib.Nat.{mul-comm, mul-assoc, mod-eq-of-lt, pow-suc, pow-succ'}

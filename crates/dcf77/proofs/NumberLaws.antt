@@ -1,4 +1,4 @@
--- The fields and the parities of a run, taken from the numbers of its three groups. Assumes nothing.
+-- The fields and the parities of a run, taken from the numbers of its three groups.
 use Prim.Native.Nat.{ℕ, _/_, _%_}
 use mathlib.Core.Path.{_≡_}
 use mathlib.Core.Bool.{not, _&&_}

@@ -1,4 +1,4 @@
--- The test that two minutes are the same is right. Assumes nothing.
+-- The test that two minutes are the same is right.
 use mathlib.Core.Path.{_≡_, refl}
 use mathlib.Core.Bool.{true, _&&_, Bool·beq}
 use lib.Dec.{eqb}

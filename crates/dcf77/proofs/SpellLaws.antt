@@ -1,4 +1,4 @@
--- Numbers that spell marks, put together from the parts of a run. Assumes nothing.
+-- Numbers that spell marks, put together from the parts of a run.
 use Prim.Native.Nat.{ℕ, zero, suc, _+_, _-_, _*_, _/_, _%_, _^_, _<_}
 use native.Mathlib.Nat.{zero-add, suc-add, mul-assoc, add-comm, mul-comm, mod-lt, mod-mod, pow-succ'}
 use native.Mathlib.Numerals.{add-one}

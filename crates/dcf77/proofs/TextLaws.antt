@@ -1,5 +1,5 @@
 -- The run that is made of a minute whose fields pass the writer's test keeps the rules, and its fields are those of the
--- minute. Assumes nothing.
+-- minute.
 use Prim.Native.Nat.{ℕ, zero, suc, _+_, _/_, _%_, _≤_}
 use native.Mathlib.Omega.{arith}
 use mathlib.Core.Path.{_≡_, refl, sym, ap, _∙_}

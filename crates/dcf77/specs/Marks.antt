@@ -1,4 +1,4 @@
--- Numbers and parity in marks, over a first place and a count. Assumes nothing.
+-- Numbers and parity in marks, over a first place and a count.
 use Prim.Native.Nat.{ℕ, zero, suc, _+_, _*_, _/_, _%_}
 use mathlib.Core.Bool.{Bool, true, not, _&&_}
 use mathlib.Core.List.{List, [], _∷_}

@@ -1,4 +1,4 @@
--- One DCF77 minute: the marks between two gaps, and the time that they announce. Assumes nothing.
+-- One DCF77 minute: the marks between two gaps, and the time that they announce.
 use Prim.Native.Nat.{ℕ, _+_, _/_, _%_}
 use mathlib.Core.Bool.{Bool, false, cond, not, _&&_, _||_, Bool·beq}
 use mathlib.Core.List.{List, [], _∷_, _++_}

@@ -1,4 +1,4 @@
--- What the private functions require and ensure: runs of marks as numbers. Assumes nothing.
+-- What the private functions require and ensure: runs of marks as numbers.
 use Prim.Native.Nat.{ℕ, _+_, _*_, _/_, _%_, _≤_}
 use mathlib.Core.Path.{_≡_}
 use mathlib.Core.Bool.{true, cond, not, _&&_}

@@ -1,4 +1,4 @@
--- Which minutes have a run that is read as them, and marks as a number. Assumes nothing.
+-- Which minutes have a run that is read as them, and marks as a number.
 use Prim.Native.Nat.{ℕ, _<_, _^_}
 use mathlib.Core.Path.{_≡_}
 use mathlib.Core.Bool.{Bool, cond, not, _&&_}

@@ -1,4 +1,4 @@
--- Laws of decimal digits, each for any number of them: digits and number determine one another. Assumes nothing.
+-- Laws of decimal digits, each for any number of them: digits and number determine one another.
 use Prim.Native.Nat.{ℕ, zero, suc, _+_, _-_, _*_, _/_, _%_, _^_, _≤_, _<_}
 use native.Mathlib.Nat.{pow-succ', pow-le-pow-right, zero-add, add-zero, one-mul, mul-assoc, lt-of-lt-of-le}
 use native.Mathlib.Nat.{mul-le-mul-right}

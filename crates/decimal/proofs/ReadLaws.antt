@@ -1,4 +1,4 @@
--- Laws of reading digits, at once or digit by digit. Assumes nothing.
+-- Laws of reading digits, at once or digit by digit.
 use Prim.Native.Nat.{ℕ, suc, _+_, _-_, _*_, _^_, _≤_, _<_}
 use native.Mathlib.Numerals.{add-one}
 use native.Mathlib.Nat.{lt-of-not-le}

@@ -1,5 +1,5 @@
 -- The main results: what is read is written back byte for byte, what is written reads as what it was, and a number is
--- refused exactly if nothing that can be read stands for it. Assumes nothing.
+-- refused exactly if nothing that can be read stands for it.
 use Prim.Native.Nat.{ℕ, _≤_}
 use mathlib.Core.Path.{_≡_, sym}
 use mathlib.Core.Logic.{_↔_}

@@ -1,4 +1,4 @@
--- Laws of writing digits, at once or digit by digit. Assumes nothing.
+-- Laws of writing digits, at once or digit by digit.
 use Prim.Native.Nat.{ℕ, zero, suc, _+_, _-_, _/_, _%_, _^_, _≤_, _<_}
 use native.Mathlib.Omega.{arith}
 use mathlib.Core.Path.{_≡_, refl}

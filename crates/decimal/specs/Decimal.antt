@@ -1,4 +1,4 @@
--- Decimal digits: the number that a run of digits stands for, and the digits of a number. Assumes nothing.
+-- Decimal digits: the number that a run of digits stands for, and the digits of a number.
 use Prim.Native.Nat.{ℕ, zero, suc, _+_, _-_, _*_, _/_, _%_, _^_}
 use mathlib.Core.Bool.{Bool, cond, _&&_}
 use mathlib.Core.List.{List, [], _∷_, _++_}

@@ -1,5 +1,5 @@
 -- Laws of the ELV string: its weekday, its flags, its reading once it fits its layout, its text, and that the writer
--- may decide from the clock time. Assumes nothing.
+-- may decide from the clock time.
 use Prim.Native.Nat.{ℕ, _+_, _*_, _%_, _≤_, _<_}
 use native.Mathlib.Omega.{arith}
 use native.Mathlib.Decide.{ℕ-discrete, decLt}

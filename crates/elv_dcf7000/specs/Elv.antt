@@ -1,4 +1,4 @@
--- The string of an ELV DCF7000 clock, 21 bytes. Assumes nothing.
+-- The string of an ELV DCF7000 clock, 21 bytes.
 use Prim.Native.Nat.{ℕ, _+_, _/_, _%_}
 use mathlib.Core.Bool.{Bool, false, cond, not, _&&_}
 use mathlib.Core.List.{List, _++_}

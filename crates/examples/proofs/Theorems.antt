@@ -1,4 +1,4 @@
--- The worked examples of document 01 hold. Assumes nothing.
+-- The worked examples of document 01 hold.
 use mathlib.Core.Path.{refl}
 use mathlib.Core.List.{Option·toList}
 use Rattle.clock_time.specs.Same.{eqℤ}

@@ -1,4 +1,4 @@
--- The worked examples P1 to P11 of document 01 (01, Examples (P: proved)), as one table. Assumes nothing.
+-- The worked examples P1 to P11 of document 01 (01, Examples (P: proved)), as one table.
 use Prim.Native.Nat.{ℕ}
 use mathlib.Core.Path.{_≡_}
 use mathlib.Core.Bool.{false}

@@ -1,4 +1,4 @@
--- Laws of the feed's state and event as C has them: they fit bytes, and what is stored is the state. Assumes nothing.
+-- Laws of the feed's state and event as C has them: they fit bytes, and what is stored is the state.
 use Prim.Native.Nat.{ℕ, suc, _<_, _≤_}
 use native.Mathlib.Omega.{arith}
 use mathlib.Core.Path.{_≡_, sym, ap, subst, _∙_}

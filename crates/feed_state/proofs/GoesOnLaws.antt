@@ -1,4 +1,4 @@
--- Calls of the feed go on where the last one stopped. Assumes nothing.
+-- Calls of the feed go on where the last one stopped.
 use Prim.Native.Nat.{ℕ, _≤_}
 use native.Mathlib.Omega.{arith}
 use mathlib.Core.Path.{_≡_, refl, ap}

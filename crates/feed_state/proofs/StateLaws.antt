@@ -1,4 +1,4 @@
--- The bytes of a feed's state are that state again. Assumes nothing.
+-- The bytes of a feed's state are that state again.
 use Prim.Native.Nat.{ℕ, suc}
 use native.Mathlib.Omega.{arith}
 use mathlib.Core.Path.{_≡_, refl}

@@ -1,4 +1,4 @@
--- The main results of the feed over a state of bytes: nothing is lost between calls. Assumes nothing.
+-- The main results of the feed over a state of bytes: nothing is lost between calls.
 use Prim.Native.Nat.{ℕ, _≤_}
 use mathlib.Core.Path.{_≡_}
 use mathlib.Core.List.{List, _++_}

@@ -1,4 +1,4 @@
--- The feed's state as 68 bytes that C lends, and its event as a number. Assumes nothing.
+-- The feed's state as 68 bytes that C lends, and its event as a number.
 use Prim.Native.Nat.{ℕ}
 use mathlib.Core.Bool.{cond}
 use mathlib.Core.List.{List, [], _∷_, _++_}

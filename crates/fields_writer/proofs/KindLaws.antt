@@ -1,4 +1,4 @@
--- Laws of writing by kind numbers. Assumes nothing.
+-- Laws of writing by kind numbers.
 use Prim.Native.Nat.{ℕ, _≤_, _<_}
 use native.Mathlib.Decide.{ℕ-discrete}
 use native.Mathlib.Omega.{arith}

@@ -1,4 +1,4 @@
--- Writing strings by kind numbers, and minutes, from the numbers of a reading. Assumes nothing.
+-- Writing strings by kind numbers, and minutes, from the numbers of a reading.
 use Prim.Native.Nat.{ℕ}
 use mathlib.Core.Bool.{cond}
 use mathlib.Core.List.{List}

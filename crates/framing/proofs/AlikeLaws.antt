@@ -1,4 +1,4 @@
--- The bytes past the kept ones change nothing: two states that differ there only are fed alike. Assumes nothing.
+-- The bytes past the kept ones change nothing: two states that differ there only are fed alike.
 use Prim.Native.Nat.{ℕ, _+_, _≤_, _<_}
 use native.Mathlib.Omega.{arith}
 use mathlib.Core.Path.{_≡_, refl, sym, ap, _∙_}

@@ -1,4 +1,4 @@
--- Laws of the feed over a list, at a place i of it. Assumes nothing.
+-- Laws of the feed over a list, at a place i of it.
 use Prim.Native.Nat.{ℕ, suc, _+_, _≤_, _<_, _-_}
 use native.Mathlib.Omega.{arith}
 use native.Mathlib.Numerals.{add-one, one-add}

@@ -1,4 +1,4 @@
--- A string between STX and ETX is found, from any state, or dropped if it is overlong. Assumes nothing.
+-- A string between STX and ETX is found, from any state, or dropped if it is overlong.
 use Prim.Native.Nat.{ℕ, _+_, _≤_, _<_}
 use native.Mathlib.Omega.{arith}
 use native.Mathlib.Numerals.{suc-eq-add-one}

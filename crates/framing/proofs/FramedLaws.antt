@@ -1,5 +1,4 @@
--- The state after any run of bytes holds the bytes of the string that it is inside, or that is complete. Assumes
--- nothing.
+-- The state after any run of bytes holds the bytes of the string that it is inside, or that is complete.
 use Prim.Native.Nat.{ℕ, zero, suc, _+_, _<_}
 use native.Mathlib.Omega.{arith}
 use native.Mathlib.Nat.{min-le-right}

@@ -1,4 +1,4 @@
--- Lists fed in two parts. Assumes nothing.
+-- Lists fed in two parts.
 use Prim.Native.Nat.{ℕ, suc}
 use mathlib.Core.Path.{_≡_, refl, sym, ap, _∙_}
 use mathlib.Core.Bool.{false, true≢false}

@@ -1,4 +1,4 @@
--- Laws of plain bytes, which are neither STX nor ETX, several at once. Assumes nothing.
+-- Laws of plain bytes, which are neither STX nor ETX, several at once.
 use Prim.Native.Nat.{ℕ, zero, suc, _+_, _*_, _≤_, _<_}
 use native.Mathlib.Nat.{add-zero, add-suc}
 use native.Mathlib.Decide.{ℕ-discrete}

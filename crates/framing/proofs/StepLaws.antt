@@ -1,4 +1,4 @@
--- Laws of the single step. Assumes nothing.
+-- Laws of the single step.
 use Prim.Native.Nat.{ℕ, _+_, _<_, _≤_}
 use native.Mathlib.Omega.{arith}
 use mathlib.Core.Path.{_≡_, refl}

@@ -1,4 +1,4 @@
--- The feed as single steps. Assumes nothing.
+-- The feed as single steps.
 use Prim.Native.Nat.{ℕ, zero, suc, _+_, _≤_, _<_, min}
 use native.Mathlib.Omega.{arith}
 use native.Mathlib.Nat.{suc-min-suc, zero-min, min-zero, min-le-right, le-min}

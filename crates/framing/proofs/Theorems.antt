@@ -1,4 +1,4 @@
--- The main results of the serial feed. Assumes nothing.
+-- The main results of the serial feed.
 use Prim.Native.Nat.{ℕ, _+_, _≤_, _<_}
 use mathlib.Core.Path.{_≡_, refl}
 use mathlib.Core.Bool.{true, false}

@@ -1,4 +1,4 @@
--- The feed over a list of bytes: single steps up to the first string, complete or dropped. Assumes nothing.
+-- The feed over a list of bytes: single steps up to the first string, complete or dropped.
 use Prim.Native.Nat.{ℕ, _+_}
 use mathlib.Core.Bool.{Bool, true, false, cond}
 use mathlib.Core.List.{List, [], _∷_}

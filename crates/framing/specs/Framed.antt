@@ -1,4 +1,4 @@
--- What a string is, of which the theorems speak. Assumes nothing.
+-- What a string is, of which the theorems speak.
 use Prim.Native.Nat.{ℕ, _+_, _≤_}
 use mathlib.Core.Path.{_≡_}
 use mathlib.Core.Bool.{Bool, true, not, _&&_, _||_}

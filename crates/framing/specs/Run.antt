@@ -1,4 +1,4 @@
--- What the private functions promise to the feed. Assumes nothing.
+-- What the private functions promise to the feed.
 use Prim.Native.Nat.{ℕ, zero, suc, _+_, _≤_, _<_}
 use mathlib.Core.Path.{_≡_}
 use mathlib.Core.Bool.{false, _||_}

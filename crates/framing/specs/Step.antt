@@ -1,5 +1,5 @@
 -- The single step of the serial feed, which the code calls `Framer`, on any state, also one that no run of the feed
--- gives. Assumes nothing.
+-- gives.
 use Prim.Native.Nat.{ℕ, _+_}
 use mathlib.Core.Bool.{cond}
 use mathlib.Core.List.{List}

@@ -1,4 +1,4 @@
--- Single steps one after another. Assumes nothing.
+-- Single steps one after another.
 use Prim.Native.Nat.{ℕ, _+_, _≤_, _<_, min}
 use mathlib.Core.Path.{_≡_}
 use mathlib.Core.List.{List, [], _∷_}

@@ -1,4 +1,4 @@
--- Right-aligned numbers are written as they were read, for any number of places. Assumes nothing.
+-- Right-aligned numbers are written as they were read, for any number of places.
 use Prim.Native.Nat.{ℕ, suc, _+_, _-_, _*_, _/_, _%_, _≤_, _<_}
 use native.Mathlib.Nat.{add-zero}
 use native.Mathlib.Omega.{arith}

@@ -1,4 +1,4 @@
--- Laws of right-aligned numbers, each for any number of places. Assumes nothing.
+-- Laws of right-aligned numbers, each for any number of places.
 use Prim.Native.Nat.{ℕ, zero, suc, _-_, _%_, _^_, _≤_, _<_}
 use native.Mathlib.Decide.{decLt}
 use native.Mathlib.Omega.{arith}

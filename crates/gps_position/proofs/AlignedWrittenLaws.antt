@@ -1,4 +1,4 @@
--- Right-aligned numbers are read as they were written, for any number of places. Assumes nothing.
+-- Right-aligned numbers are read as they were written, for any number of places.
 use Prim.Native.Nat.{ℕ, zero, suc, _+_, _-_, _/_, _%_, _^_, _<_}
 use native.Mathlib.Decide.{decLt, ℕ-discrete}
 use native.Mathlib.Nat.{pow-succ', div-one, div-div-eq-div-mul}

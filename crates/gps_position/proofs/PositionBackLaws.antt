@@ -1,4 +1,4 @@
--- A position is written as it was read. Assumes nothing.
+-- A position is written as it was read.
 use Prim.Native.Nat.{ℕ, suc, _+_}
 use Prim.Native.Char.{code}
 use mathlib.Core.Path.{_≡_, refl}

@@ -1,4 +1,4 @@
--- Laws of the position of a GPS string. Assumes nothing.
+-- Laws of the position of a GPS string.
 use Prim.Native.Nat.{ℕ, _≤_, _<_}
 use Prim.Native.Char.{code}
 use native.Mathlib.Omega.{arith}

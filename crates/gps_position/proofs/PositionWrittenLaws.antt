@@ -1,4 +1,4 @@
--- A position is made of the bytes of its parts, and one that can be said is read as it was written. Assumes nothing.
+-- A position is made of the bytes of its parts, and one that can be said is read as it was written.
 use Prim.Native.Nat.{ℕ, _*_, _/_, _^_, _≤_, _<_}
 use Prim.Native.Char.{code}
 use native.Mathlib.Omega.{arith}

@@ -1,4 +1,4 @@
--- Right-aligned numbers, with blanks for leading zeros. Assumes nothing.
+-- Right-aligned numbers, with blanks for leading zeros.
 use Prim.Native.Nat.{ℕ, zero, suc, _+_, _/_, _%_}
 use mathlib.Core.Bool.{Bool, true, false, cond, _&&_, _||_}
 use mathlib.Core.List.{List, [], _∷_, _++_}

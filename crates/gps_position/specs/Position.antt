@@ -1,4 +1,4 @@
--- The position of a GPS string: two angles and a height. Assumes nothing.
+-- The position of a GPS string: two angles and a height.
 use Prim.Native.Nat.{ℕ, _+_, _/_}
 use Prim.Native.Char.{Char, code}
 use mathlib.Core.Bool.{Bool, not, _&&_}

@@ -1,4 +1,4 @@
--- A string is read exactly if it passes every check of its format, in whatever order. Assumes nothing.
+-- A string is read exactly if it passes every check of its format, in whatever order.
 use Prim.Native.Nat.{ℕ, _≤_}
 use mathlib.Core.Path.{_≡_, refl}
 use mathlib.Core.Bool.{Bool, true, false, _||_, true≢false}

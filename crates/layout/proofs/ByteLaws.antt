@@ -1,4 +1,4 @@
--- The tests of one byte on its bits, and what they say of it. Assumes nothing.
+-- The tests of one byte on its bits, and what they say of it.
 use Prim.Native.Nat.{ℕ, _+_, _%_, _<_}
 use native.Mathlib.Omega.{arith}
 use native.Mathlib.Decide.{ℕ-discrete}

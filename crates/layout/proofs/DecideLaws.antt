@@ -1,5 +1,4 @@
 -- A format's writer may decide from the value: it is written exactly if it is a valid reading that the format carries.
--- Assumes nothing.
 use Prim.Native.Nat.{ℕ, _%_, _<_}
 use native.Mathlib.Omega.{arith}
 use mathlib.Core.Path.{_≡_, refl, _∙_}

@@ -1,4 +1,4 @@
--- Bytes that are each a letter or a blank: the test of the word is that of its bytes. Assumes nothing.
+-- Bytes that are each a letter or a blank: the test of the word is that of its bytes.
 use Prim.Native.Nat.{ℕ, zero, suc, _+_, _*_, _/_, _%_, _<_}
 use native.Mathlib.Nat.{div-add-mod'}
 use native.Mathlib.Omega.{arith}

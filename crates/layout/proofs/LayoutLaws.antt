@@ -1,5 +1,4 @@
 -- Laws of layouts, for any layout: the search for a place that offends, and what a string that fits has at each place.
--- Assumes nothing.
 use Prim.Native.Nat.{ℕ, zero, suc, _+_, _^_, _≤_, _<_}
 use native.Mathlib.Nat.{zero-add, add-zero}
 use native.Mathlib.Decide.{decLt}

@@ -1,4 +1,4 @@
--- Three pairs of digits at once: the code's sums on a word are the numbers of its pairs. Assumes nothing.
+-- Three pairs of digits at once: the code's sums on a word are the numbers of its pairs.
 use Prim.Native.Nat.{ℕ, zero, suc, _+_, _*_, _/_, _%_, _^_, _≤_, _<_}
 use native.Mathlib.Omega.{arith}
 use mathlib.Core.Path.{_≡_, _∙_}

@@ -1,4 +1,4 @@
--- The test of all places of a layout, part by part. Assumes nothing.
+-- The test of all places of a layout, part by part.
 use Prim.Native.Nat.{ℕ, zero, suc, _+_}
 use native.Mathlib.Nat.{add-zero}
 use native.Mathlib.Omega.{arith}

@@ -1,4 +1,4 @@
--- Bytes held to a sample: the test of the word is that of its bytes. Assumes nothing.
+-- Bytes held to a sample: the test of the word is that of its bytes.
 use Prim.Native.Nat.{ℕ, suc, _+_, _*_, _/_, _%_, _^_, _<_}
 use native.Mathlib.Nat.{pow-suc, one-le-pow}
 use native.Mathlib.Omega.{arith}

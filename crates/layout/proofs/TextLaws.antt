@@ -1,4 +1,4 @@
--- Laws of the rule for every time string, for any format. Assumes nothing.
+-- Laws of the rule for every time string, for any format.
 use Prim.Native.Nat.{ℕ}
 use mathlib.Core.Path.{_≡_, refl, sym, ap, _∙_}
 use mathlib.Core.Bool.{Bool, true, false, cond, not, _||_}

@@ -1,4 +1,4 @@
--- Words of eight bytes: when they are bytes, and where they stand in a string. Assumes nothing.
+-- Words of eight bytes: when they are bytes, and where they stand in a string.
 use Prim.Native.Nat.{ℕ, zero, suc, _+_, _≤_, _<_}
 use native.Mathlib.Omega.{arith}
 use mathlib.Core.Path.{_≡_}

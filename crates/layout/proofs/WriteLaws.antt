@@ -1,5 +1,5 @@
 -- Laws for writing by a layout: a string that fits is its layout's fixed bytes and its own bytes at the open places,
--- and digits and letters are written as they were read. Assumes nothing.
+-- and digits and letters are written as they were read.
 use Prim.Native.Nat.{ℕ, suc, _+_, _/_, _%_, _≤_, _<_}
 use Prim.Native.Char.{Char, code}
 use native.Mathlib.Nat.{zero-add, add-zero}

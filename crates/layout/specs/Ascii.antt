@@ -1,4 +1,4 @@
--- A quoted text as bytes. Assumes nothing.
+-- A quoted text as bytes.
 use Prim.Native.Nat.{ℕ}
 use Prim.Native.String.{String, [], _∷_}
 use Prim.Native.Char.{code}

@@ -1,4 +1,4 @@
--- Layouts: for each place of a string, which bytes may stand there. Assumes nothing.
+-- Layouts: for each place of a string, which bytes may stand there.
 use Prim.Native.Nat.{ℕ, zero, suc, _+_, _*_, _/_, _%_, _<_}
 use Prim.Native.Char.{Char, code}
 use mathlib.Core.Path.{_≡_}

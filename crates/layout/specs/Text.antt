@@ -1,4 +1,4 @@
--- The rule for every time string: which strings are read, in which order errors are given. Assumes nothing.
+-- The rule for every time string: which strings are read, in which order errors are given.
 use Prim.Native.Nat.{ℕ}
 use Prim.Native.Char.{Char, code}
 use mathlib.Core.Bool.{Bool, false, cond, not, _&&_, _||_}

@@ -1,4 +1,4 @@
--- Eight bytes at once: a sample or flags that they fit, and the numbers of three pairs of digits. Assumes nothing.
+-- Eight bytes at once: a sample or flags that they fit, and the numbers of three pairs of digits.
 use Prim.Native.Nat.{ℕ, zero, suc, _+_, _*_, _/_, _%_}
 use mathlib.Core.Bool.{Bool, true, cond}
 use mathlib.Core.List.{List, [], _∷_}

@@ -1,4 +1,4 @@
--- Laws of whole calls of `list`. Assumes nothing.
+-- Laws of whole calls of `list`.
 use Prim.Native.Nat.{ℕ, suc, _+_, _-_, _≤_, _<_}
 use native.Mathlib.Omega.{arith}
 use native.Mathlib.Nat.{lt-of-not-le}

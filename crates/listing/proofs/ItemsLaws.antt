@@ -1,4 +1,4 @@
--- Laws of items and their lines. Assumes nothing.
+-- Laws of items and their lines.
 use Prim.Native.Nat.{ℕ, _≤_, _<_}
 use native.Mathlib.Omega.{arith}
 use mathlib.Core.Path.{_≡_, ap, _∙_}

@@ -1,4 +1,4 @@
--- Laws of the listing over lists of bytes. Assumes nothing.
+-- Laws of the listing over lists of bytes.
 use Prim.Native.Nat.{ℕ, suc, _+_, _-_, _≤_, _<_}
 use native.Mathlib.Nat.{sub-zero, suc-add}
 use native.Mathlib.Numerals.{one-add}

@@ -1,4 +1,4 @@
--- The main results of the listing. Assumes nothing.
+-- The main results of the listing.
 use Prim.Native.Nat.{ℕ, _+_, _≤_, _<_}
 use native.Mathlib.Omega.{arith}
 use mathlib.Core.Path.{_≡_}

@@ -1,5 +1,4 @@
 -- The text of the first i bytes stands in the first `at` bytes of the buffer: how the loop over a slice goes on.
--- Assumes nothing.
 use Prim.Native.Nat.{ℕ, _+_, _-_, _≤_, _<_}
 use native.Mathlib.Omega.{arith}
 use native.Mathlib.Nat.{add-zero, add-assoc, sub-zero, sub-add-eq, zero-add}

@@ -1,4 +1,4 @@
--- Calls of `list` one after another, of which the theorems speak. Assumes nothing.
+-- Calls of `list` one after another, of which the theorems speak.
 use Prim.Native.Nat.{ℕ}
 use mathlib.Core.List.{List, [], _++_}
 use lib.ListN.{take}

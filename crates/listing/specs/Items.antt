@@ -1,4 +1,4 @@
--- What the listing makes of each string. Assumes nothing.
+-- What the listing makes of each string.
 use Prim.Native.Nat.{ℕ, _+_, _%_, _^_, _≤_}
 use mathlib.Core.Path.{_≡_}
 use mathlib.Core.List.{List, [], _++_}

@@ -1,4 +1,4 @@
--- The listing of a stream of bytes, byte by byte, so that it does not depend on how the stream is cut. Assumes nothing.
+-- The listing of a stream of bytes, byte by byte, so that it does not depend on how the stream is cut.
 use Prim.Native.Nat.{ℕ, suc, _-_}
 use mathlib.Core.Bool.{cond}
 use mathlib.Core.List.{List, [], _∷_, _++_}

@@ -1,4 +1,4 @@
--- What the private functions promise to the listing. Assumes nothing.
+-- What the private functions promise to the listing.
 use Prim.Native.Nat.{ℕ, _+_, _-_, _≤_, _<_}
 use mathlib.Core.Path.{_≡_}
 use mathlib.Core.List.{List}

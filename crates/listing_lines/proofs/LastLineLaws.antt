@@ -1,4 +1,4 @@
--- How the line of the totals is put together. Assumes nothing.
+-- How the line of the totals is put together.
 use Prim.Native.Nat.{ℕ, suc, _+_, _-_, _/_, _%_, _≤_, _<_}
 use native.Mathlib.Omega.{arith}
 use native.Mathlib.Nat.{le-of-lt}

@@ -1,4 +1,4 @@
--- Laws of the line of a clock time. Assumes nothing.
+-- Laws of the line of a clock time.
 use Prim.Native.Nat.{ℕ}
 use mathlib.Core.Path.{_≡_, refl}
 use mathlib.Core.List.{List}

@@ -1,4 +1,4 @@
--- Laws of numbers in decimal. Assumes nothing.
+-- Laws of numbers in decimal.
 use Prim.Native.Nat.{ℕ, zero, suc, _+_, _/_, _%_, _≤_, _<_}
 use native.Mathlib.Omega.{arith}
 use native.Mathlib.Nat.{mod-eq-of-lt}

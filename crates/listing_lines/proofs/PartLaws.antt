@@ -1,4 +1,4 @@
--- Bytes that are written to a part of a buffer. Assumes nothing.
+-- Bytes that are written to a part of a buffer.
 use Prim.Native.Nat.{ℕ, _+_, _-_, _≤_}
 use native.Mathlib.Omega.{arith}
 use native.Mathlib.Nat.{le-refl}

@@ -1,4 +1,4 @@
--- What the functions that write the totals promise to one another. Assumes nothing.
+-- What the functions that write the totals promise to one another.
 use Prim.Native.Nat.{ℕ, _+_, _≤_}
 use mathlib.Core.Path.{_≡_}
 use mathlib.Core.List.{List, _++_}

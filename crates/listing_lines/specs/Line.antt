@@ -1,4 +1,4 @@
--- The line of a clock time. Assumes nothing.
+-- The line of a clock time.
 use Prim.Native.Nat.{ℕ}
 use Prim.Native.Char.{Char, code}
 use mathlib.Core.Bool.{Bool, cond}

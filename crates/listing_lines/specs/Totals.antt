@@ -1,4 +1,4 @@
--- The line of the totals. Assumes nothing.
+-- The line of the totals.
 use Prim.Native.Nat.{ℕ}
 use mathlib.Core.Bool.{true}
 use mathlib.Core.List.{List, _++_}

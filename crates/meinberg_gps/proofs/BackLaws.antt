@@ -1,4 +1,4 @@
--- A GPS string that is accepted is the text of its fields. Assumes nothing.
+-- A GPS string that is accepted is the text of its fields.
 use Prim.Native.Nat.{ℕ}
 use Prim.Native.Char.{code}
 use mathlib.Core.Path.{_≡_, refl}

@@ -1,4 +1,4 @@
--- The writer of GPS strings may decide from the clock time and the position. Assumes nothing.
+-- The writer of GPS strings may decide from the clock time and the position.
 use Prim.Native.Nat.{ℕ}
 use mathlib.Core.Path.{_≡_, refl}
 use mathlib.Core.Bool.{Bool, true, false, _&&_}

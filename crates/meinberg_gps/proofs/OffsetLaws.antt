@@ -1,4 +1,4 @@
--- Laws of the UTC offset of a GPS string: it is in range, and written and read the same. Assumes nothing.
+-- Laws of the UTC offset of a GPS string: it is in range, and written and read the same.
 use Prim.Native.Nat.{ℕ, _+_, _*_, _/_, _%_, _≤_, _<_}
 use native.Mathlib.Omega.{arith}
 use mathlib.Core.Path.{_≡_, refl, ap, _∙_}

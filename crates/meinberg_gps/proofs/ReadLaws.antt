@@ -1,4 +1,4 @@
--- Laws of reading a GPS string that fits its layout. Assumes nothing.
+-- Laws of reading a GPS string that fits its layout.
 use Prim.Native.Nat.{ℕ}
 use mathlib.Core.Path.{_≡_, refl, _∙_}
 use mathlib.Core.Bool.{Bool, true, false, cond}

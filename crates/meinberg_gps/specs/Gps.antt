@@ -1,4 +1,4 @@
--- The Meinberg GPS string, 66 bytes. Assumes nothing.
+-- The Meinberg GPS string, 66 bytes.
 use Prim.Native.Nat.{ℕ, _+_, _*_, _/_, _%_}
 use Prim.Native.Char.{code}
 use mathlib.Core.Bool.{Bool, false, not, _&&_, Bool·beq}

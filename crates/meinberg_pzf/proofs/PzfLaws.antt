@@ -1,5 +1,4 @@
--- A PZF string that fits its layout is the text of its fields, and the writer may decide from the clock time. Assumes
--- nothing.
+-- A PZF string that fits its layout is the text of its fields, and the writer may decide from the clock time.
 use Prim.Native.Nat.{ℕ}
 use mathlib.Core.Path.{_≡_, refl}
 use mathlib.Core.Bool.{Bool, true, false}

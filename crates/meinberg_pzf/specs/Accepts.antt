@@ -1,4 +1,4 @@
--- Which PZF strings are accepted, and as which clock times. Assumes nothing.
+-- Which PZF strings are accepted, and as which clock times.
 use Prim.Native.Nat.{ℕ}
 use mathlib.Core.List.{List}
 use Rattle.clock_time.specs.declared.ClockTime.{ClockTime}

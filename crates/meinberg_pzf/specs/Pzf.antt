@@ -1,4 +1,4 @@
--- The Meinberg PZF string, 32 bytes. Assumes nothing.
+-- The Meinberg PZF string, 32 bytes.
 use Prim.Native.Nat.{ℕ}
 use mathlib.Core.Bool.{Bool, false, cond}
 use mathlib.Core.List.{List, _∷_, _++_}

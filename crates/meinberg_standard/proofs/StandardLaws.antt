@@ -1,5 +1,4 @@
 -- A standard string that fits its layout is the text of its fields, and the writer may decide from the clock time.
--- Assumes nothing.
 use Prim.Native.Nat.{ℕ}
 use Prim.Native.Char.{code}
 use native.Mathlib.Omega.{arith}

@@ -1,4 +1,4 @@
--- The Meinberg standard string, 32 bytes. Assumes nothing.
+-- The Meinberg standard string, 32 bytes.
 use Prim.Native.Nat.{ℕ}
 use Prim.Native.Char.{code}
 use mathlib.Core.Bool.{Bool, false, cond, not, _&&_}

@@ -1,4 +1,4 @@
--- Laws of strings by kind numbers. Assumes nothing.
+-- Laws of strings by kind numbers.
 use mathlib.Core.Path.{_≡_, refl}
 use mathlib.Core.List.{List}
 use lib.IntN.{ℤ}

@@ -1,4 +1,4 @@
--- A DCF77 minute over memory that C lends. Assumes nothing.
+-- A DCF77 minute over memory that C lends.
 use Prim.Native.Nat.{ℕ}
 use mathlib.Core.List.{List}
 use lib.IntN.{ℤ}

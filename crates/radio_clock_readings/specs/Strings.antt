@@ -1,4 +1,4 @@
--- Time strings by kind numbers, over memory that C lends. Assumes nothing.
+-- Time strings by kind numbers, over memory that C lends.
 use Prim.Native.Nat.{ℕ}
 use mathlib.Core.List.{List}
 use lib.IntN.{ℤ}

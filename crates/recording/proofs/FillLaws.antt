@@ -1,4 +1,4 @@
--- Laws of filling outcomes in one pass, with the last gap kept. Assumes nothing.
+-- Laws of filling outcomes in one pass, with the last gap kept.
 use Prim.Native.Nat.{ℕ, _+_, _<_, _≤_, zero-le}
 use native.Mathlib.Omega.{arith}
 use mathlib.Core.Path.{_≡_, refl, sym, _∙_}

@@ -1,4 +1,4 @@
--- Laws of the gaps of a recording, and of what a mark at one place changes in them. Assumes nothing.
+-- Laws of the gaps of a recording, and of what a mark at one place changes in them.
 use Prim.Native.Nat.{ℕ, zero, suc, _+_, _-_, _<_, _≤_, zero-le, suc-le-suc}
 use native.Mathlib.Decide.{decLt, ℕ-discrete}
 use native.Mathlib.Nat.{not-suc-le-zero, add-zero}

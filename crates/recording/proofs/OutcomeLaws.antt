@@ -1,4 +1,4 @@
--- Laws of outcomes under any rule: mended, filled, and counted. Assumes nothing.
+-- Laws of outcomes under any rule: mended, filled, and counted.
 use Prim.Native.Nat.{ℕ, zero, suc, _+_, _<_, _≤_, zero-le}
 use native.Mathlib.Decide.{ℕ-discrete}
 use native.Mathlib.Nat.{not-suc-le-zero}

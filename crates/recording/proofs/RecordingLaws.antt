@@ -1,4 +1,4 @@
--- Laws of what the crate's functions answer and leave, one for each way they end. Assumes nothing.
+-- Laws of what the crate's functions answer and leave, one for each way they end.
 use Prim.Native.Nat.{ℕ, _+_, _<_, _≤_}
 use native.Mathlib.Omega.{arith}
 use mathlib.Core.Path.{_≡_, refl, sym, ap}

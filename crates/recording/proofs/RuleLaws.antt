@@ -1,4 +1,4 @@
--- Laws of the rule over any number of a run: what a mark v at place p changes in it. Assumes nothing.
+-- Laws of the rule over any number of a run: what a mark v at place p changes in it.
 use Prim.Native.Nat.{ℕ, zero, suc, _+_, _-_, _<_}
 use native.Mathlib.Decide.{decLt, ℕ-discrete}
 use native.Mathlib.Nat.{sub-zero, zero-sub, suc-sub-suc}

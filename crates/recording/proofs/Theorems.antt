@@ -1,5 +1,5 @@
--- The crate's main results, of what its contracts say: `correction r marks′ outcomes′ ≡ correctMark ..` and
--- `filling r outcomes′ ≡ fillOutcomes ..` hold of the answer r and of the memory at exit. Assumes nothing.
+-- The crate's main results, of what its contracts say: `correction r marks′ outcomes′ ≡ correctMark ..` and `filling r
+-- outcomes′ ≡ fillOutcomes ..` hold of the answer r and of the memory at exit.
 use Prim.Native.Nat.{ℕ, _<_, _≤_}
 use mathlib.Core.Path.{_≡_}
 use mathlib.Core.Logic.{_↔_}

@@ -1,5 +1,4 @@
 -- Demand 3: what holds after a correction that isn't refused, with each of its sentences at the fields that say it.
--- Assumes nothing.
 use Prim.Native.Nat.{ℕ}
 use mathlib.Core.Path.{_≡_}
 use mathlib.Core.List.{List}

@@ -1,5 +1,5 @@
 -- The gaps of a recording, the paper's tape: the list of its marks. "Places on a tape count from 0 too." (01, Tape and
--- sheet) Assumes nothing.
+-- sheet)
 use Prim.Native.Nat.{ℕ, zero, suc, _<_}
 use mathlib.Core.Path.{_≡_}
 use mathlib.Core.Bool.{Bool, cond}

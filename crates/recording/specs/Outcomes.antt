@@ -1,4 +1,4 @@
--- Outcomes, the paper's sheet: a number for each place, under any rule that gives a place its number. Assumes nothing.
+-- Outcomes, the paper's sheet: a number for each place, under any rule that gives a place its number.
 use Prim.Native.Nat.{ℕ, zero, suc, _+_, _<_}
 use mathlib.Core.Path.{_≡_}
 use mathlib.Core.Bool.{cond}

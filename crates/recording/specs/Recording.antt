@@ -1,4 +1,4 @@
--- What the crate's functions answer, and leave of the memory lent to them. Assumes nothing.
+-- What the crate's functions answer, and leave of the memory lent to them.
 use Prim.Native.Nat.{ℕ}
 use mathlib.Core.Bool.{Bool, not, _||_}
 use mathlib.Core.List.{List, [], _∷_}

@@ -1,4 +1,4 @@
--- The rule that gives each place of a recording its number, over any number of a run. Assumes nothing.
+-- The rule that gives each place of a recording its number, over any number of a run.
 use Prim.Native.Nat.{ℕ, suc}
 use mathlib.Core.Bool.{cond}
 use mathlib.Core.List.{List, _∷_, Option·toList}

@@ -1,5 +1,4 @@
--- What an accepted minute's number is made of: a date that has a day number, and an offset of 120 in summer. Assumes
--- nothing.
+-- What an accepted minute's number is made of: a date that has a day number, and an offset of 120 in summer.
 use Prim.Native.Nat.{ℕ}
 use mathlib.Core.Path.{_≡_, refl, _∙_}
 use mathlib.Core.Bool.{Bool, true, false, cond}

@@ -1,4 +1,4 @@
--- The number of a run of marks. Assumes nothing.
+-- The number of a run of marks.
 use Prim.Native.Nat.{ℕ, _+_, _*_}
 use mathlib.Core.List.{List}
 use lib.IntN.{pos}

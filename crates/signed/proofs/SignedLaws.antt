@@ -1,4 +1,4 @@
--- Laws of signed numbers from a sign and a size, at any width. Assumes nothing.
+-- Laws of signed numbers from a sign and a size, at any width.
 use Prim.Native.Nat.{ℕ, zero, suc, _^_, _≤_, _<_}
 use native.Mathlib.Nat.{zero-add}
 use native.Mathlib.Omega.{arith}

@@ -1,4 +1,4 @@
--- Signed numbers from a sign and a size. Assumes nothing.
+-- Signed numbers from a sign and a size.
 use Prim.Native.Nat.{ℕ}
 use mathlib.Core.Bool.{Bool, cond, not, _&&_, _||_}
 use lib.Dec.{leb, eqb}

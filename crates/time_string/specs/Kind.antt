@@ -1,4 +1,4 @@
--- The kind of a time string, and reading by kind. Assumes nothing.
+-- The kind of a time string, and reading by kind.
 use Prim.Native.Nat.{ℕ}
 use mathlib.Core.Bool.{cond}
 use mathlib.Core.List.{List}

@@ -1,4 +1,3 @@
--- `bits::join_eight` meets its contract. Assumes nothing.
 use borrow.Author.Needs.{needs}
 use native.Mathlib.Omega.{arith}
 use Rattle.bits.proofs.join_eight.Statement.{statement}

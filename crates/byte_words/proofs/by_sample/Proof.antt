@@ -1,4 +1,3 @@
--- `byte_words::by_sample` meets its contract. Assumes nothing.
 use Rattle.clock_time.proofs.Tests.{tests}
 use Rattle.layout.specs.Words.{bySample}
 use Rattle.byte_words.proofs.by_sample.Statement.{statement}

@@ -1,4 +1,3 @@
--- `byte_words::join` meets its contract. Assumes nothing.
 use borrow.Author.Needs.{needs}
 use native.Mathlib.Omega.{arith}
 use Rattle.layout.specs.Words.{word}

@@ -1,4 +1,3 @@
--- `byte_words::join_by_sample` meets its contract. Assumes nothing.
 use borrow.Author.Needs.{needs}
 use mathlib.Core.Path.{_∙_}
 use Rattle.byte_words.proofs.join_by_sample.Statement.{statement}

@@ -1,5 +1,4 @@
--- `clock_fields::are_within` meets its contract. The invariant: all numbers are in their ranges exactly
--- if those passed were and those left are. Assumes nothing.
+-- The invariant: all numbers are in their ranges exactly if those passed were and those left are.
 use native.Mathlib.Omega.{arith}
 use Prim.Native.Nat.{_-_, _≤_}
 use native.Mathlib.Numerals.{add-one}

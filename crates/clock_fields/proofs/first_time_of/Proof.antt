@@ -1,4 +1,3 @@
--- `clock_fields::first_time_of` meets its contract. Assumes nothing.
 use borrow.Author.Needs.{needs}
 use mathlib.Core.Path.{sym, _∙_}
 use Rattle.clock_fields.proofs.RangeLaws.{numbered-fit, numbered-unfit}

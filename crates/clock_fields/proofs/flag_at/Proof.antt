@@ -1,4 +1,3 @@
--- `clock_fields::flag_at` meets its contract. Assumes nothing.
 use borrow.Author.Needs.{needs, sfits-of}
 use lib.Dec.{lit<}
 use lib.IntN.{pos}

@@ -1,4 +1,3 @@
--- `clock_fields::gps_from` meets its contract. Assumes nothing.
 use lib.Dec.{lit<}
 use mir.Syntax.{w32}
 use Rattle.clock_fields.specs.Ranges.{gpsFrom, timeRanges, gpsRanges}

@@ -1,4 +1,3 @@
--- `clock_fields::gps_of` meets its contract. Assumes nothing.
 use borrow.Author.Needs.{needs}
 use Rattle.clock_fields.specs.Ranges.{ranges, gpsRanges, timeRanges}
 use Rattle.clock_fields.proofs.RangeLaws.{all-fit, numbered-all, numbered-other}

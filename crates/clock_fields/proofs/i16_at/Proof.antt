@@ -1,4 +1,3 @@
--- `clock_fields::i16_at` meets its contract. Assumes nothing.
 use borrow.Author.Needs.{needs}
 use mir.Syntax.{w32}
 use mir.Facts.{toZ-ofZ}

@@ -1,4 +1,3 @@
--- `clock_fields::is_time` meets its contract. Assumes nothing.
 use borrow.Author.Needs.{needs}
 use Rattle.clock_fields.specs.Ranges.{ranges, timeRanges}
 use Rattle.clock_fields.proofs.is_time.Statement.{statement}

@@ -1,4 +1,3 @@
--- `clock_fields::minute_from` meets its contract. Assumes nothing.
 use lib.Dec.{lit<}
 use Rattle.clock_fields.specs.Ranges.{minuteFrom, timeRanges, minuteRanges}
 use Rattle.clock_fields.proofs.RangeLaws.{fits-at, fits-first}

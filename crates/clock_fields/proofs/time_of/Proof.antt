@@ -1,4 +1,3 @@
--- `clock_fields::time_of` meets its contract. Assumes nothing.
 use borrow.Author.Needs.{needs}
 use Rattle.clock_fields.specs.Ranges.{timeRanges}
 use Rattle.clock_fields.proofs.RangeLaws.{all-fit, numbered-all, numbered-other}

@@ -1,4 +1,3 @@
--- `clock_fields::u8_at` meets its contract. Assumes nothing.
 use borrow.Author.Needs.{needs}
 use denote.Ref.{now}
 use lib.Dec.{lit<}

@@ -1,5 +1,4 @@
--- `clock_numbers::copy_to_front` meets its contract. The invariant: the first `i` numbers are the new ones, and the
--- rest is as it was. Assumes nothing.
+-- The invariant: the first `i` numbers are the new ones, and the rest is as it was.
 use native.Mathlib.Omega.{arith}
 use Prim.Native.Nat.{_-_}
 use borrow.Author.Needs.{needs}

@@ -1,4 +1,3 @@
--- `clock_numbers::flag_number` meets its contract. Assumes nothing.
 use Rattle.clock_numbers.proofs.flag_number.Statement.{statement}
 use Rattle.clock_numbers.proofs.flag_number.Tie as tie
 

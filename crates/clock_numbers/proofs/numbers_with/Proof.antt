@@ -1,4 +1,3 @@
--- `clock_numbers::numbers_with` meets its contract. Assumes nothing.
 use borrow.Author.Needs.{needs, sfits-of}
 use mir.Syntax.{w16, w32}
 use mir.Val.{SFits}

@@ -1,4 +1,3 @@
--- `clock_numbers::put_gps` meets its contract. Assumes nothing.
 use borrow.Author.Needs.{needs}
 use Rattle.clock_numbers.specs.Numbers.{putAnswer}
 use Rattle.clock_numbers.proofs.put_gps.Statement.{statement}

@@ -1,4 +1,3 @@
--- `clock_numbers::put_numbers` meets its contract. Assumes nothing.
 use borrow.Author.Needs.{needs}
 use denote.Ref.{now}
 use Rattle.clock_numbers.proofs.NumberLaws.{put-no-room, put-room}

@@ -1,4 +1,3 @@
--- `clock_numbers::put_position` meets its contract. Assumes nothing.
 use borrow.Author.Needs.{needs, sfits-of}
 use mathlib.Core.Path.{_∙_}
 use mir.Syntax.{w32}

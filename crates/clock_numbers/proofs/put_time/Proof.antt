@@ -1,4 +1,3 @@
--- `clock_numbers::put_time` meets its contract. Assumes nothing.
 use borrow.Author.Needs.{needs}
 use Rattle.clock_numbers.specs.Numbers.{putAnswer, timeNumbers}
 use Rattle.clock_numbers.proofs.put_time.Statement.{statement}

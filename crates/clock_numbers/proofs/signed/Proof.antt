@@ -1,4 +1,3 @@
--- `clock_numbers::signed` meets its contract. Assumes nothing.
 use mir.Syntax.{w32}
 use mir.Facts.{toZ-ofZ, sfits-widen}
 use Rattle.calendar.proofs.SignedLaws.{widened}

@@ -1,4 +1,4 @@
--- `dcf77::read_minute` meets its contract: the checks are gone through part by part. Assumes nothing.
+-- The checks are gone through part by part.
 use borrow.Author.Needs.{needs}
 use native.Mathlib.Omega.{arith}
 use mathlib.Core.Path.{refl, sym, ap, _∙_}

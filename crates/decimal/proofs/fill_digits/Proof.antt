@@ -1,5 +1,4 @@
--- `decimal::fill_digits` meets its contract. The invariant: `i` digits of `rest`, and then what stands from `i` on, are
--- what is to be left. Assumes nothing.
+-- The invariant: `i` digits of `rest`, and then what stands from `i` on, are what is to be left.
 use Prim.Native.Nat.{_≤_}
 use native.Mathlib.Omega.{arith}
 use mathlib.Core.Path.{_≡_, refl, _∙_}

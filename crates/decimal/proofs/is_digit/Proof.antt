@@ -1,4 +1,4 @@
--- `decimal::is_digit` meets its contract: its test is the definition's. Assumes nothing.
+-- Its test is the definition's.
 use mathlib.Core.Path.{refl}
 use Rattle.decimal.specs.Decimal.{isDigit}
 use Rattle.decimal.proofs.is_digit.Statement.{statement}

@@ -1,4 +1,3 @@
--- `decimal::pair` meets its contract.
 use borrow.Author.Needs.{needs}
 use Rattle.decimal.proofs.PairLaws.{pair-sum}
 use Rattle.decimal.proofs.pair.Statement.{statement}

@@ -1,4 +1,4 @@
--- `decimal::power_of_ten` meets its contract. The invariant: `power` is ten to the turns taken. Assumes nothing.
+-- The invariant: `power` is ten to the turns taken.
 use Prim.Native.Nat.{_+_, _-_, _^_, _≤_}
 use native.Mathlib.Omega.{arith}
 use mathlib.Core.Path.{_≡_, refl}

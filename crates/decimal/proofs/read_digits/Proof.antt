@@ -1,5 +1,4 @@
--- `decimal::read_digits` meets its contract. The invariant: the first `i` bytes are digits, which stand for `number`.
--- Assumes nothing.
+-- The invariant: the first `i` bytes are digits, which stand for `number`.
 use Prim.Native.Nat.{_-_}
 use native.Mathlib.Omega.{arith}
 use mathlib.Core.Path.{sym, _∙_}

@@ -1,4 +1,4 @@
--- `decimal::write_digits` meets its contract: each way out is a case of what writing answers. Assumes nothing.
+-- Each way out is a case of what writing answers.
 use native.Mathlib.Omega.{arith}
 use borrow.Author.Needs.{needs}
 use denote.Ref.{now}

@@ -1,4 +1,3 @@
--- `elv_dcf7000::first_error` meets its contract. Assumes nothing.
 use borrow.Author.Needs.{needs}
 use Rattle.layout.specs.Ascii.{ascii}
 use Rattle.elv_dcf7000.specs.Elv.{elvLayout}

@@ -1,4 +1,3 @@
--- `elv_dcf7000::has_flag_fault` meets its contract. Assumes nothing.
 use borrow.Author.Needs.{needs}
 use Rattle.elv_dcf7000.proofs.ElvLaws.{flag-fault}
 use Rattle.elv_dcf7000.proofs.has_flag_fault.Statement.{statement}

@@ -1,4 +1,3 @@
--- `elv_dcf7000::offset_of` meets its contract. Assumes nothing.
 use Rattle.elv_dcf7000.specs.Elv.{elvOffset}
 use Rattle.elv_dcf7000.proofs.offset_of.Statement.{statement}
 use Rattle.elv_dcf7000.proofs.offset_of.Tie as tie

@@ -1,4 +1,3 @@
--- `elv_dcf7000::read_elv` meets its contract. Assumes nothing.
 use borrow.Author.Needs.{needs}
 use Rattle.layout.specs.Ascii.{ascii}
 use Rattle.layout.proofs.TextLaws.{reading}

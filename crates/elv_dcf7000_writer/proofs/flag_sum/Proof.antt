@@ -1,4 +1,3 @@
--- `elv_dcf7000_writer::flag_sum` meets its contract. Assumes nothing.
 use borrow.Author.Needs.{needs}
 use native.Mathlib.Omega.{arith}
 use Rattle.gregorian.proofs.DateLaws.{byte-small}

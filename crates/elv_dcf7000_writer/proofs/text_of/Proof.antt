@@ -1,4 +1,3 @@
--- `elv_dcf7000_writer::text_of` meets its contract. Assumes nothing.
 use borrow.Author.Needs.{needs}
 use mathlib.Core.Path.{_∙_}
 use Rattle.elv_dcf7000.specs.Elv.{elvText}

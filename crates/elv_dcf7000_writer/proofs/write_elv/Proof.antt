@@ -1,4 +1,3 @@
--- `elv_dcf7000_writer::write_elv` meets its contract. Assumes nothing.
 use borrow.Author.Needs.{needs}
 use Rattle.layout.proofs.DecideLaws.{clock-writes}
 use Rattle.elv_dcf7000.specs.Elv.{elv, writeElv}

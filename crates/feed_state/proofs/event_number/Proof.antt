@@ -1,4 +1,3 @@
--- `feed_state::event_number` meets its contract. Assumes nothing.
 use borrow.Author.Needs.{needs}
 use native.Mathlib.Omega.{arith}
 use Rattle.feed_state.proofs.event_number.Statement.{statement}

@@ -1,4 +1,3 @@
--- `feed_state::mode_of` meets its contract. Assumes nothing.
 use Rattle.clock_time.proofs.Tests.{tests}
 use Rattle.feed_state.specs.Feed.{modeOf}
 use Rattle.feed_state.proofs.mode_of.Statement.{statement}

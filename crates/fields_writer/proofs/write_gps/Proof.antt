@@ -1,4 +1,3 @@
--- `fields_writer::write_gps` meets its contract. Assumes nothing.
 use borrow.Author.Needs.{needs}
 use Rattle.fields_writer.specs.Writers.{writeAs}
 use Rattle.fields_writer.proofs.write_gps.Statement.{statement}

@@ -1,4 +1,3 @@
--- `fields_writer::write_marks` meets its contract. Assumes nothing.
 use borrow.Author.Needs.{needs}
 use Rattle.fields_writer.specs.Writers.{writeMinuteFrom}
 use Rattle.fields_writer.proofs.write_marks.Statement.{statement}

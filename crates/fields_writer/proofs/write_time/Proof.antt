@@ -1,4 +1,3 @@
--- `fields_writer::write_time` meets its contract. Assumes nothing.
 use borrow.Author.Needs.{needs}
 use borrow.Author.Tests.{ne-eqb}
 use Rattle.fields_writer.specs.Writers.{writeTime}

@@ -1,4 +1,3 @@
--- `gps_position::angle_digits` meets its contract. Assumes nothing.
 use borrow.Author.Needs.{needs}
 use Rattle.gps_position.proofs.AlignedLaws.{aligned-blank}
 use Rattle.gps_position.proofs.angle_digits.Statement.{statement}

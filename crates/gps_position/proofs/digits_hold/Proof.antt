@@ -1,4 +1,3 @@
--- `gps_position::digits_hold` meets its contract. Assumes nothing.
 use borrow.Author.Needs.{needs}
 use Rattle.gps_position.specs.Position.{angleDigits, positionDigits}
 use Rattle.gps_position.proofs.AlignedLaws.{aligned-blank}

@@ -1,4 +1,3 @@
--- `gps_position::is_carried` meets its contract. Assumes nothing.
 use borrow.Author.Needs.{needs, sfits-of}
 use mir.Facts.{toZ-ofZ}
 use Rattle.gps_position.specs.Position.{positionCarried}

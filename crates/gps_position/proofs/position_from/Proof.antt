@@ -1,4 +1,3 @@
--- `gps_position::position_from` meets its contract. Assumes nothing.
 use borrow.Author.Needs.{needs, sfits-of}
 use native.Mathlib.Omega.{arith}
 use Prim.Native.Nat.{_^_, _<_}

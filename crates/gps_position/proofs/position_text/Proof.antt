@@ -1,4 +1,3 @@
--- `gps_position::position_text` meets its contract. Assumes nothing.
 use borrow.Author.Needs.{needs}
 use lib.Dec.{lit<}
 use Rattle.layout.specs.Ascii.{ascii}

@@ -1,4 +1,3 @@
--- `gps_position::read_digits` meets its contract. Assumes nothing.
 use borrow.Author.Needs.{needs}
 use Rattle.decimal.specs.Decimal.{isDigit, valueFrom}
 use Rattle.gps_position.specs.Aligned.{digitsOrBlanks}

@@ -1,4 +1,3 @@
--- `gps_position::read_position` meets its contract. Assumes nothing.
 use borrow.Author.Needs.{needs}
 use mathlib.Core.Path.{sym, _∙_}
 use Rattle.gps_position.proofs.PositionLaws.{position-no-digits, position-short}

@@ -1,4 +1,3 @@
--- `layout::error_at` meets its contract. Assumes nothing.
 use Rattle.clock_time.proofs.Tests.{tests}
 use Rattle.layout.specs.Layout.{errorAt}
 use Rattle.layout.proofs.error_at.Statement.{statement}

@@ -1,5 +1,4 @@
--- `layout::first_offence` meets its contract. The invariant: the first place of the whole is `i` past the first of what
--- is left. Assumes nothing.
+-- The invariant: the first place of the whole is `i` past the first of what is left.
 use borrow.Author.Needs.{needs}
 use native.Mathlib.Omega.{arith}
 use Prim.Native.Nat.{_+_, _-_, _≤_}

@@ -1,4 +1,3 @@
--- `layout::is_allowed` meets its contract. Assumes nothing.
 use Rattle.clock_time.proofs.Tests.{tests}
 use Rattle.decimal.specs.Decimal.{isDigit}
 use Rattle.layout.specs.Layout.{allowed}

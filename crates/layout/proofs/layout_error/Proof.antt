@@ -1,4 +1,3 @@
--- `layout::layout_error` meets its contract. Assumes nothing.
 use borrow.Author.Needs.{needs}
 use Rattle.clock_time.proofs.Tests.{tests}
 use Rattle.layout.specs.Layout.{layoutError}

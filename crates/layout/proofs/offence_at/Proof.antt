@@ -1,4 +1,3 @@
--- `layout::offence_at` meets its contract. Assumes nothing.
 use borrow.Author.Needs.{needs}
 use Rattle.layout.specs.Layout.{offence}
 use Rattle.layout.proofs.offence_at.Statement.{statement}

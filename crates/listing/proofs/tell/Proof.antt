@@ -1,4 +1,3 @@
--- `listing::tell` meets its contract. Assumes nothing.
 use borrow.Author.Needs.{needs}
 use Rattle.listing.proofs.ToldLaws.{told-within, tells}
 use Rattle.listing.proofs.tell.Statement.{statement}

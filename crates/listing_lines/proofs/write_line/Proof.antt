@@ -1,4 +1,3 @@
--- `listing_lines::write_line` meets its contract. Assumes nothing.
 use borrow.Author.Needs.{needs}
 use Rattle.listing_lines.specs.Line.{writeLine}
 use Rattle.listing_lines.proofs.write_line.Statement.{statement}

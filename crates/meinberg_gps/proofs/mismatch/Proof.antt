@@ -1,4 +1,3 @@
--- `meinberg_gps::mismatch` meets its contract. Assumes nothing.
 use borrow.Author.Needs.{needs}
 use Rattle.layout.specs.Ascii.{ascii}
 use Rattle.layout.proofs.PairLaws.{numbers-fit}

@@ -1,4 +1,3 @@
--- `meinberg_gps::read_clock` meets its contract. Assumes nothing.
 use borrow.Author.Needs.{needs}
 use mathlib.Core.Path.{_≡_}
 use denote.Ref.{now}

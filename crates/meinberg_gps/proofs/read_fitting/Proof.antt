@@ -1,4 +1,3 @@
--- `meinberg_gps::read_fitting` meets its contract. Assumes nothing.
 use borrow.Author.Needs.{needs}
 use mathlib.Core.Path.{sym, _∙_}
 use Rattle.meinberg_gps.proofs.ReadLaws.{read-offset, read-placed}

@@ -1,4 +1,3 @@
--- `meinberg_gps_writer::write_gps` meets its contract. Assumes nothing.
 use borrow.Author.Needs.{needs}
 use Rattle.meinberg_gps.proofs.GpsLaws.{writes}
 use Rattle.meinberg_gps_writer.proofs.write_gps.Statement.{statement}

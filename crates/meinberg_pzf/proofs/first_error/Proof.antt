@@ -1,4 +1,3 @@
--- `meinberg_pzf::first_error` meets its contract. Assumes nothing.
 use borrow.Author.Needs.{needs}
 use Rattle.layout.specs.Ascii.{ascii}
 use Rattle.meinberg_pzf.specs.Pzf.{pzfLayout}

@@ -1,4 +1,3 @@
--- `meinberg_pzf::offset_of` meets its contract. Assumes nothing.
 use Rattle.meinberg_pzf.specs.Pzf.{pzfOffset}
 use Rattle.meinberg_pzf.proofs.offset_of.Statement.{statement}
 use Rattle.meinberg_pzf.proofs.offset_of.Tie as tie

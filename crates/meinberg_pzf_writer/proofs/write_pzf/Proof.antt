@@ -1,4 +1,3 @@
--- `meinberg_pzf_writer::write_pzf` meets its contract. Assumes nothing.
 use borrow.Author.Needs.{needs}
 use Rattle.layout.proofs.DecideLaws.{clock-writes}
 use Rattle.meinberg_pzf.specs.Pzf.{pzf, writePzf}

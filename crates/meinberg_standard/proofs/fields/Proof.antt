@@ -1,4 +1,3 @@
--- `meinberg_standard::fields` meets its contract. Assumes nothing.
 use borrow.Author.Needs.{needs, sfits-of}
 use mir.Syntax.{w16}
 use mir.Val.{SFits}

@@ -1,5 +1,4 @@
--- `meinberg_standard::fits` meets its contract: it is the layout's own test, eight places at once, and the string is
--- long enough for each. Assumes nothing.
+-- It is the layout's own test, eight places at once, and the string is long enough for each.
 use borrow.Author.Needs.{needs}
 use mathlib.Core.Bool.{true}
 use mathlib.Core.List.{[], _∷_}

@@ -1,4 +1,3 @@
--- `meinberg_standard::read_standard` meets its contract. Assumes nothing.
 use borrow.Author.Needs.{needs}
 use Rattle.layout.specs.Ascii.{ascii}
 use Rattle.layout.proofs.TextLaws.{reading}

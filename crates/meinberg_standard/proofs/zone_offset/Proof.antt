@@ -1,4 +1,3 @@
--- `meinberg_standard::zone_offset` meets its contract. Assumes nothing.
 use Rattle.clock_time.proofs.Tests.{tests}
 use Rattle.meinberg_standard.specs.Standard.{standardZone}
 use Rattle.meinberg_standard.proofs.zone_offset.Statement.{statement}

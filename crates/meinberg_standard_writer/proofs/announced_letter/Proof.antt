@@ -1,4 +1,3 @@
--- `meinberg_standard_writer::announced_letter` meets its contract. Assumes nothing.
 use borrow.Author.Needs.{needs}
 use Rattle.meinberg_standard.specs.Standard.{announcedLetter}
 use Rattle.meinberg_standard_writer.proofs.announced_letter.Statement.{statement}

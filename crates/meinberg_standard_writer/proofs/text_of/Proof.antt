@@ -1,4 +1,3 @@
--- `meinberg_standard_writer::text_of` meets its contract. Assumes nothing.
 use borrow.Author.Needs.{needs, sfits-of}
 use mathlib.Core.Path.{_∙_}
 use mir.Syntax.{w16}

@@ -1,4 +1,3 @@
--- `meinberg_standard_writer::write_standard` meets its contract. Assumes nothing.
 use borrow.Author.Needs.{needs}
 use Rattle.layout.proofs.DecideLaws.{clock-writes}
 use Rattle.meinberg_standard.specs.Standard.{standard, writeStandard}

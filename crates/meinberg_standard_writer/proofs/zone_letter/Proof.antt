@@ -1,4 +1,3 @@
--- `meinberg_standard_writer::zone_letter` meets its contract. Assumes nothing.
 use mathlib.Core.Path.{sym, _∙_}
 use mir.Syntax.{w16}
 use borrow.Author.Tests.{eq-eqb, ne-eqb}

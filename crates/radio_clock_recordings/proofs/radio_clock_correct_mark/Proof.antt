@@ -1,4 +1,3 @@
--- `radio_clock_recordings::radio_clock_correct_mark` meets its contract. Assumes nothing.
 use borrow.Author.Needs.{needs}
 use mathlib.Core.Path.{ap}
 use Rattle.clock_time.specs.Called.{counted}

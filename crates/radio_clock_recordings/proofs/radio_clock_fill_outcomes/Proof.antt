@@ -1,4 +1,3 @@
--- `radio_clock_recordings::radio_clock_fill_outcomes` meets its contract. Assumes nothing.
 use borrow.Author.Needs.{needs}
 use Rattle.radio_clock_recordings.proofs.radio_clock_fill_outcomes.Statement.{statement}
 use Rattle.radio_clock_recordings.proofs.radio_clock_fill_outcomes.Tie as tie

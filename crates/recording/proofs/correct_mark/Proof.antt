@@ -1,4 +1,3 @@
--- `recording::correct_mark` meets its contract. Assumes nothing.
 use borrow.Author.Needs.{needs}
 use mathlib.Core.Path.{sym, _∙_}
 use Rattle.recording.proofs.RecordingLaws.{set-fits, correct-unfit, correct-no-place, correct-no-mark}

@@ -1,4 +1,3 @@
--- `recording::fill_outcomes` meets its contract. Assumes nothing.
 use borrow.Author.Needs.{needs}
 use mathlib.Core.Path.{sym, _∙_}
 use Rattle.recording.proofs.RecordingLaws.{unfit-false, fill-unfit, fill-done}

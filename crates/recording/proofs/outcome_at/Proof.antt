@@ -1,4 +1,3 @@
--- `recording::outcome_at` meets its contract. Assumes nothing.
 use borrow.Author.Needs.{needs}
 use Rattle.clock_time.proofs.Tests.{tests}
 use Rattle.recording.specs.Recording.{outcomeAt}

@@ -1,4 +1,3 @@
--- `run_number::minute_number` meets its contract. Assumes nothing.
 use borrow.Author.Needs.{needs}
 use native.Mathlib.Omega.{arith}
 use Rattle.gregorian.proofs.DateLaws.{days-small}

@@ -1,4 +1,3 @@
--- `run_number::number_of` meets its contract. Assumes nothing.
 use borrow.Author.Needs.{needs}
 use native.Mathlib.Omega.{arith}
 use Rattle.run_number.proofs.number_of.Statement.{statement}

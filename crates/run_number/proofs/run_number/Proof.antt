@@ -1,4 +1,3 @@
--- `run_number::run_number` meets its contract. Assumes nothing.
 use borrow.Author.Needs.{needs}
 use mathlib.Core.Path.{sym}
 use Rattle.run_number.specs.Number.{runNumber}

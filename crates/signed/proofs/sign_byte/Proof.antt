@@ -1,4 +1,3 @@
--- `signed::sign_byte` meets its contract. Assumes nothing.
 use mathlib.Core.Path.{sym, _∙_}
 use lib.Signed.{nonNeg}
 use mir.Facts.{toZ-ofZ}

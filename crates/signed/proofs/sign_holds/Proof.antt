@@ -1,4 +1,3 @@
--- `signed::sign_holds` meets its contract. Assumes nothing.
 use mathlib.Core.Path.{refl}
 use Rattle.signed.specs.Signed.{signHolds}
 use Rattle.signed.proofs.sign_holds.Statement.{statement}

@@ -1,4 +1,3 @@
--- `time_string::kind_of` meets its contract. Assumes nothing.
 use borrow.Author.Needs.{needs}
 use Rattle.clock_time.proofs.Tests.{tests}
 use Rattle.time_string.specs.Kind.{kindOf}

@@ -1,4 +1,3 @@
--- `time_string::read` meets its contract. Assumes nothing.
 use borrow.Author.Needs.{needs}
 use Rattle.time_string.specs.Kind.{readAs}
 use Rattle.time_string.proofs.read.Statement.{statement}

@@ -1,4 +1,3 @@
--- `time_string::with_position` meets its contract. Assumes nothing.
 use borrow.Author.Needs.{needs}
 use Rattle.time_string.proofs.with_position.Statement.{statement}
 use Rattle.time_string.proofs.with_position.Tie as tie

@@ -1,4 +1,3 @@
--- `time_string::without_position` meets its contract. Assumes nothing.
 use borrow.Author.Needs.{needs}
 use Rattle.time_string.proofs.without_position.Statement.{statement}
 use Rattle.time_string.proofs.without_position.Tie as tie

@@ -1,4 +1,4 @@
--- `vectors::answer_lines` is safe and ends: each turn passes a line and its line feed. Assumes nothing.
+-- `vectors::answer_lines` is safe and ends: each turn passes a line and its line feed.
 use Prim.Native.Nat.{_-_}
 use borrow.Author.Needs.{needs}
 use lib.ListN.{length}

@@ -1,4 +1,3 @@
--- `calendar::date::days_since_epoch` meets its contract. Assumes nothing.
 use borrow.Author.Needs.{needs}
 use native.Mathlib.Omega.{arith}
 use Rattle.gregorian.proofs.DateLaws.{known, days-small}

@@ -1,4 +1,3 @@
--- `calendar::date::weekday_of` meets its contract. Assumes nothing.
 use borrow.Author.Needs.{needs}
 use borrow.Author.Tests.{eq-eqb, ne-eqb}
 use Rattle.gregorian.proofs.DateLaws.{weekday-answer}

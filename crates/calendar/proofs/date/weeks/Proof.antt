@@ -1,4 +1,3 @@
--- `calendar::date::weeks` meets its contract. Assumes nothing.
 use borrow.Author.Needs.{needs}
 use Rattle.gregorian.proofs.DateLaws.{weeks-of}
 use Rattle.calendar.proofs.date.weeks.Statement.{statement}

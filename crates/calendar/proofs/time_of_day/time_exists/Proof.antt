@@ -1,4 +1,3 @@
--- `calendar::time_of_day::time_exists` meets its contract. Assumes nothing.
 use borrow.Author.Needs.{needs}
 use mathlib.Core.Bool.{and-true, and-assoc}
 use borrow.Author.Tests.{lt-ltb, le-ltb}

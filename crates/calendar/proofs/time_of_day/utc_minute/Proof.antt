@@ -1,5 +1,4 @@
--- `calendar::time_of_day::utc_minute` meets its contract: the shifted difference is above zero and has the same
--- remainder. Assumes nothing.
+-- The shifted difference is above zero and has the same remainder.
 use borrow.Author.Needs.{needs}
 use native.Mathlib.Omega.{arith}
 use Prim.Native.Nat.{_+_, _*_, _<_, _^_}

@@ -1,4 +1,3 @@
--- `calendar::unix_time::is_valid` meets its contract. Assumes nothing.
 use borrow.Author.Needs.{needs, sfits-of}
 use mathlib.Core.Path.{sym, _∙_}
 use mathlib.Core.Bool.{and-true, and-false, and-assoc}

@@ -1,4 +1,3 @@
--- `calendar::unix_time::offset_in_range` meets its contract. Assumes nothing.
 use mir.Facts.{toZ-ofZ}
 use Rattle.calendar.proofs.SignedLaws.{offset-range}
 use Rattle.calendar.proofs.unix_time.offset_in_range.Statement.{statement}

@@ -1,4 +1,3 @@
--- `calendar::unix_time::unix_time` meets its contract. Assumes nothing.
 use borrow.Author.Needs.{needs}
 use mathlib.Core.Path.{sym, _∙_}
 use mir.Syntax.{w64}

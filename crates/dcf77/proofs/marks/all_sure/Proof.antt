@@ -1,4 +1,3 @@
--- `dcf77::marks::all_sure` meets its contract. Assumes nothing.
 use borrow.Author.Needs.{needs}
 use Rattle.dcf77.proofs.MarkLaws.{words-sure}
 use Rattle.dcf77.proofs.marks.all_sure.Statement.{statement}

@@ -1,4 +1,3 @@
--- `dcf77::marks::are_eight_sure` meets its contract. Assumes nothing.
 use borrow.Author.Needs.{needs}
 use native.Mathlib.Omega.{arith}
 use mathlib.Core.Path.{_∙_}

@@ -1,4 +1,3 @@
--- `dcf77::marks::is_odd` meets its contract. Assumes nothing.
 use borrow.Author.Needs.{needs}
 use Rattle.dcf77.proofs.marks.is_odd.Statement.{statement}
 use Rattle.dcf77.proofs.marks.is_odd.Tie as tie

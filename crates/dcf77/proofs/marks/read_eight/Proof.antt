@@ -1,4 +1,3 @@
--- `dcf77::marks::read_eight` meets its contract. Assumes nothing.
 use borrow.Author.Needs.{needs}
 use native.Mathlib.Omega.{arith}
 use denote.Ref.{now}

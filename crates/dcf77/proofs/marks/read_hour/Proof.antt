@@ -1,4 +1,3 @@
--- `dcf77::marks::read_hour` meets its contract. Assumes nothing.
 use borrow.Author.Needs.{needs}
 use denote.Ref.{now}
 use Rattle.dcf77.proofs.MarkLaws.{binary-first}

@@ -1,4 +1,3 @@
--- `dcf77::reading::announced_time` meets its contract. Assumes nothing.
 use borrow.Author.Needs.{needs}
 use mir.Syntax.{w16}
 use mir.Val.{SFits}

@@ -1,4 +1,3 @@
--- `dcf77::reading::date_error` meets its contract. Assumes nothing.
 use borrow.Author.Needs.{needs}
 use mathlib.Core.Path.{ap}
 use mathlib.Core.Bool.{not}

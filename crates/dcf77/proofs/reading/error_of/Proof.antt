@@ -1,4 +1,4 @@
--- `dcf77::reading::error_of` meets its contract: the number that no arm names is 19. Assumes nothing.
+-- The number that no arm names is 19.
 use Prim.Native.Nat.{_≤_}
 use native.Mathlib.Omega.{arith}
 use borrow.Author.Needs.{needs}

@@ -1,4 +1,3 @@
--- `dcf77::reading::is_leap_fault` meets its contract. Assumes nothing.
 use borrow.Author.Needs.{needs}
 use borrow.Author.Tests.{eq-eqb, ne-eqb}
 use Rattle.dcf77.proofs.reading.is_leap_fault.Statement.{statement}

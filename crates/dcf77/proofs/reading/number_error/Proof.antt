@@ -1,5 +1,4 @@
--- `dcf77::reading::number_error` meets its contract: each check in turn is the first to fail, or passes. Assumes
--- nothing.
+-- Each check in turn is the first to fail, or passes.
 use borrow.Author.Needs.{needs}
 use mathlib.Core.Path.{ap}
 use mathlib.Core.Bool.{not}

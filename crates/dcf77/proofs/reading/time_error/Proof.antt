@@ -1,4 +1,3 @@
--- `dcf77::reading::time_error` meets its contract. Assumes nothing.
 use borrow.Author.Needs.{needs}
 use Rattle.dcf77.proofs.CheckLaws.{first}
 use Rattle.dcf77.proofs.reading.time_error.Statement.{statement}

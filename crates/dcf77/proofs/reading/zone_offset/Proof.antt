@@ -1,4 +1,3 @@
--- `dcf77::reading::zone_offset` meets its contract. Assumes nothing.
 use Rattle.dcf77.proofs.reading.zone_offset.Statement.{statement}
 use Rattle.dcf77.proofs.reading.zone_offset.Tie as tie
 

@@ -1,4 +1,3 @@
--- `dcf77_writer::writing::fields_fit` meets its contract. Assumes nothing.
 use mathlib.Core.Path.{refl}
 use Rattle.dcf77.specs.Writable.{fieldsFit}
 use Rattle.dcf77_writer.proofs.writing.fields_fit.Statement.{statement}

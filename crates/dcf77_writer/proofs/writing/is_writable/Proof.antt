@@ -1,4 +1,3 @@
--- `dcf77_writer::writing::is_writable` meets its contract. Assumes nothing.
 use borrow.Author.Needs.{needs, sfits-of}
 use mir.Syntax.{w16}
 use mir.Val.{SFits}

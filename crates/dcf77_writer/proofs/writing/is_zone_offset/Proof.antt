@@ -1,4 +1,3 @@
--- `dcf77_writer::writing::is_zone_offset` meets its contract. Assumes nothing.
 use lib.Dec.{lit<}
 use lib.IntN.{pos}
 use mir.Syntax.{w16}

@@ -1,4 +1,3 @@
--- `dcf77_writer::writing::line_of` meets its contract. Assumes nothing.
 use borrow.Author.Needs.{needs}
 use mathlib.Core.Path.{_∙_}
 use Rattle.dcf77.proofs.SpellLaws.{spells-pad}

@@ -1,5 +1,4 @@
--- `dcf77_writer::writing::put_bits` meets its contract. The invariant: the first `i` bits are put, and `rest` has the
--- others. Assumes nothing.
+-- The invariant: the first `i` bits are put, and `rest` has the others.
 use Prim.Native.Nat.{_-_, _≤_}
 use native.Mathlib.Omega.{arith}
 use mathlib.Core.Path.{_≡_, refl, _∙_}

@@ -1,4 +1,3 @@
--- `dcf77_writer::writing::spell_date` meets its contract. Assumes nothing.
 use borrow.Author.Needs.{needs}
 use Prim.Native.Nat.{_%_, _/_, _<_, _^_}
 use native.Mathlib.Omega.{arith}

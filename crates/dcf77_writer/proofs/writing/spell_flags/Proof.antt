@@ -1,4 +1,3 @@
--- `dcf77_writer::writing::spell_flags` meets its contract. Assumes nothing.
 use borrow.Author.Needs.{needs}
 use mathlib.Core.Bool.{not}
 use lib.Dec.{lit<}

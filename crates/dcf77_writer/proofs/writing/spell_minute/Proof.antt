@@ -1,4 +1,3 @@
--- `dcf77_writer::writing::spell_minute` meets its contract. Assumes nothing.
 use borrow.Author.Needs.{needs}
 use Rattle.dcf77.proofs.SpellLaws.{spells-number}
 use Rattle.dcf77_writer.proofs.writing.spell_minute.Statement.{statement}

@@ -1,4 +1,3 @@
--- `dcf77_writer::writing::spell_run` meets its contract. Assumes nothing.
 use borrow.Author.Needs.{needs}
 use Rattle.dcf77.specs.Marks.{bits}
 use Rattle.dcf77.specs.Minute.{firstMarks}

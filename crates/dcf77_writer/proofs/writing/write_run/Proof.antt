@@ -1,4 +1,3 @@
--- `dcf77_writer::writing::write_run` meets its contract. Assumes nothing.
 use borrow.Author.Needs.{needs}
 use Rattle.clock_time.specs.Writing.{writeBack}
 use Rattle.dcf77.specs.Minute.{writeMinute}

@@ -1,5 +1,4 @@
--- `framing::runs::copy_eight` meets its contract. The loop's invariant: k bytes are copied. The measure is how many are
--- left. Assumes nothing.
+-- The loop's invariant: k bytes are copied. The measure is how many are left.
 use Prim.Native.Nat.{_≤_, _-_}
 use native.Mathlib.Numerals.{add-one}
 use native.Mathlib.Omega.{arith}

@@ -1,5 +1,5 @@
--- `framing::runs::keep` meets its contract. The loop's invariant: i is at most `end`, and if the bytes before the
--- loop's start are taken and kept, so are those before i. The measure is what is left up to `end`. Assumes nothing.
+-- The loop's invariant: i is at most `end`, and if the bytes before the loop's start are taken and kept, so are those
+-- before i. The measure is what is left up to `end`.
 use borrow.Author.Needs.{needs}
 use Prim.Native.Nat.{_+_, _≤_, _-_}
 use native.Mathlib.Nat.{add-assoc}

@@ -1,5 +1,4 @@
--- `framing::runs::keep_eights` meets its contract. The loop's invariant: the bytes before i, at most `end`, are taken
--- and kept. The measure is what is left up to `end`. Assumes nothing.
+-- The loop's invariant: the bytes before i, at most `end`, are taken and kept. The measure is what is left up to `end`.
 use borrow.Author.Needs.{needs}
 use Prim.Native.Nat.{_+_, _≤_, _-_}
 use native.Mathlib.Nat.{add-zero, add-assoc}

@@ -1,4 +1,4 @@
--- `framing::runs::pass` meets its contract: a run for each mode. Assumes nothing.
+-- A run for each mode.
 use borrow.Author.Needs.{needs}
 use Rattle.framing.proofs.StepLaws.{place-more, place-outside, still-outside, still-overlong}
 use Rattle.framing.proofs.runs.pass.Statement.{statement}

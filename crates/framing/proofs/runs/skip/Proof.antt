@@ -1,5 +1,4 @@
--- `framing::runs::skip` meets its contract. The loop's invariant: the bytes before i are skipped. The measure is what
--- is left of the slice. Assumes nothing.
+-- The loop's invariant: the bytes before i are skipped. The measure is what is left of the slice.
 use Prim.Native.Nat.{_-_}
 use native.Mathlib.Omega.{arith}
 use mathlib.Core.Path.{refl}

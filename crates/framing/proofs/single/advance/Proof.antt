@@ -1,4 +1,4 @@
--- `framing::single::advance` meets its contract: a law of the step for each way through the code. Assumes nothing.
+-- A law of the step for each way through the code.
 use native.Mathlib.Omega.{arith}
 use mathlib.Core.Path.{sym, _∙_}
 use borrow.Author.Needs.{needs}

@@ -1,4 +1,3 @@
--- `framing::single::place` meets its contract. Assumes nothing.
 use mathlib.Core.Path.{sym}
 use borrow.Author.Needs.{needs}
 use Rattle.framing.proofs.StepLaws.{place-more, place-outside, place-inside, place-full, place-overlong}

@@ -1,4 +1,3 @@
--- `gps_position::digits::four_digits` meets its contract. Assumes nothing.
 use borrow.Author.Needs.{needs}
 use mathlib.Core.Bool.{and-true}
 use Rattle.gps_position.specs.Aligned.{areDigits}

@@ -1,4 +1,3 @@
--- `gps_position::text::aligned_text` meets its contract. Assumes nothing.
 use borrow.Author.Needs.{needs}
 use Rattle.gps_position.specs.Aligned.{padded, aligned}
 use Rattle.gps_position.proofs.text.aligned_text.Statement.{statement}

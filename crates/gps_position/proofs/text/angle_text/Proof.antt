@@ -1,4 +1,3 @@
--- `gps_position::text::angle_text` meets its contract. Assumes nothing.
 use borrow.Author.Needs.{needs}
 use lib.Dec.{lit<}
 use mir.Facts.{toZ-ofZ}

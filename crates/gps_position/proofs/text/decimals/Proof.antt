@@ -1,4 +1,3 @@
--- `gps_position::text::decimals` meets its contract. Assumes nothing.
 use borrow.Author.Needs.{needs}
 use Rattle.decimal.specs.Decimal.{digits}
 use Rattle.decimal.proofs.PairLaws.{first-byte, second-byte}

@@ -1,4 +1,3 @@
--- `gps_position::text::digit_or_blank` meets its contract. Assumes nothing.
 use borrow.Author.Needs.{needs}
 use Rattle.clock_time.proofs.Tests.{tests}
 use Rattle.gps_position.specs.Aligned.{blankOr}

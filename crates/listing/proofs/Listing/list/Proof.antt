@@ -1,5 +1,5 @@
--- `listing::Listing::list` meets its contract. The loop's invariant: the text of the bytes before i stands at the front
--- of the buffer, and the listing goes on from there. The measure is what is left of the slice. Assumes nothing.
+-- The loop's invariant: the text of the bytes before i stands at the front of the buffer, and the listing goes on from
+-- there. The measure is what is left of the slice.
 use Prim.Native.Nat.{_-_}
 use native.Mathlib.Omega.{arith}
 use borrow.Author.Needs.{needs}

@@ -1,4 +1,3 @@
--- `listing::Listing::new` meets its contract. Assumes nothing.
 use borrow.Author.Needs.{needs}
 use Rattle.listing.proofs.Listing.new.Statement.{statement}
 use Rattle.listing.proofs.Listing.new.Tie as tie

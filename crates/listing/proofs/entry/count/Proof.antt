@@ -1,4 +1,3 @@
--- `listing::entry::count` meets its contract. Assumes nothing.
 use borrow.Author.Needs.{needs}
 use Rattle.listing.specs.Items.{counted}
 use Rattle.listing.proofs.entry.count.Statement.{statement}

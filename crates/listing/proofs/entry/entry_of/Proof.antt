@@ -1,4 +1,3 @@
--- `listing::entry::entry_of` meets its contract. Assumes nothing.
 use borrow.Author.Needs.{needs}
 use Rattle.listing.proofs.entry.entry_of.Statement.{statement}
 use Rattle.listing.proofs.entry.entry_of.Tie as tie

@@ -1,4 +1,3 @@
--- `listing::entry::read_string` meets its contract. Assumes nothing.
 use borrow.Author.Needs.{needs}
 use mathlib.Core.Path.{_∙_}
 use Rattle.listing.specs.Items.{readString}

@@ -1,4 +1,3 @@
--- `listing::entry::refused_line` meets its contract. Assumes nothing.
 use borrow.Author.Needs.{needs}
 use native.Mathlib.Omega.{arith}
 use Rattle.layout.specs.Ascii.{ascii}

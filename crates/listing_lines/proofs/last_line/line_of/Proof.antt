@@ -1,4 +1,3 @@
--- `listing_lines::last_line::line_of` meets its contract. Assumes nothing.
 use borrow.Author.Needs.{needs}
 use mathlib.Core.Path.{refl}
 use Rattle.layout.specs.Ascii.{ascii}

@@ -1,5 +1,4 @@
--- `listing_lines::last_line::numeral_of` meets its contract. The loop's invariant: the digits after i are the number's
--- last, and those of `rest` are left. The measure is i. Assumes nothing.
+-- The loop's invariant: the digits after i are the number's last, and those of `rest` are left. The measure is i.
 use native.Mathlib.Omega.{arith}
 use mathlib.Core.Path.{refl}
 use Rattle.listing_lines.proofs.LastLineLaws.{Spelt, spelt-none, spelt-more, spelt-last, spelt-end}

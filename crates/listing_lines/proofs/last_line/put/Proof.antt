@@ -1,4 +1,3 @@
--- `listing_lines::last_line::put` meets its contract. Assumes nothing.
 use borrow.Author.Needs.{needs}
 use denote.Ref.{now}
 use Rattle.listing_lines.proofs.PartLaws.{written-part}

@@ -1,4 +1,3 @@
--- `listing_lines::last_line::put_number` meets its contract. Assumes nothing.
 use borrow.Author.Needs.{needs}
 use Rattle.listing_lines.proofs.LastLineLaws.{extends-number}
 use Rattle.listing_lines.proofs.last_line.put_number.Statement.{statement}

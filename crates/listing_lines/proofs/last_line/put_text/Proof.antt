@@ -1,4 +1,3 @@
--- `listing_lines::last_line::put_text` meets its contract. Assumes nothing.
 use borrow.Author.Needs.{needs}
 use Prim.Native.Nat.{_+_, _≤_}
 use lib.ListN.{length}

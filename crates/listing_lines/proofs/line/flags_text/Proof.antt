@@ -1,4 +1,3 @@
--- `listing_lines::line::flags_text` meets its contract. Assumes nothing.
 use borrow.Author.Needs.{needs}
 use Rattle.listing_lines.specs.Line.{flagsText}
 use Rattle.listing_lines.proofs.line.flags_text.Statement.{statement}

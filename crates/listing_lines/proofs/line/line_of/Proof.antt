@@ -1,4 +1,3 @@
--- `listing_lines::line::line_of` meets its contract. Assumes nothing.
 use borrow.Author.Needs.{needs}
 use lib.Dec.{lit<}
 use mir.Syntax.{w16}

@@ -1,4 +1,3 @@
--- `meinberg_gps::offset::is_faulty` meets its contract. Assumes nothing.
 use borrow.Author.Needs.{needs}
 use mathlib.Core.Path.{refl}
 use lib.Dec.{lit≤}

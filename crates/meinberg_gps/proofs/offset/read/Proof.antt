@@ -1,4 +1,3 @@
--- `meinberg_gps::offset::read` meets its contract. Assumes nothing.
 use borrow.Author.Needs.{needs}
 use native.Mathlib.Omega.{arith}
 use denote.Ref.{now}

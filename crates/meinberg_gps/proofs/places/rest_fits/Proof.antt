@@ -1,4 +1,4 @@
--- `meinberg_gps::places::rest_fits` meets its contract: it is the layout's own test, place by place. Assumes nothing.
+-- It is the layout's own test, place by place.
 use borrow.Author.Needs.{needs}
 use mathlib.Core.Bool.{true}
 use denote.Ref.{now}

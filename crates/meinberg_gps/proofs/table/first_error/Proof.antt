@@ -1,4 +1,3 @@
--- `meinberg_gps::table::first_error` meets its contract. Assumes nothing.
 use borrow.Author.Needs.{needs}
 use Rattle.layout.specs.Ascii.{ascii}
 use Rattle.meinberg_gps.specs.Gps.{gpsLayout}

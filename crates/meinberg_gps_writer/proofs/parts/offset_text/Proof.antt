@@ -1,4 +1,3 @@
--- `meinberg_gps_writer::parts::offset_text` meets its contract. Assumes nothing.
 use borrow.Author.Needs.{needs}
 use mir.Syntax.{w32}
 use mir.Facts.{toZ-ofZ, sfits-widen}

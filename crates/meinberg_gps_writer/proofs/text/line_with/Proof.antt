@@ -1,4 +1,3 @@
--- `meinberg_gps_writer::text::line_with` meets its contract. Assumes nothing.
 use mathlib.Core.Path.{refl}
 use lib.Dec.{lit<}
 use Rattle.layout.specs.Ascii.{ascii}

@@ -1,4 +1,3 @@
--- `radio_clock_readings::instant::put_instant` meets its contract. Assumes nothing.
 use borrow.Author.Needs.{needs, sfits-of}
 use mir.Syntax.{w64}
 use mir.Val.{SFits}

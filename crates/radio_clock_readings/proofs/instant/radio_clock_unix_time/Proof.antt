@@ -1,4 +1,3 @@
--- `radio_clock_readings::instant::radio_clock_unix_time` meets its contract. Assumes nothing.
 use borrow.Author.Needs.{needs}
 use Rattle.radio_clock_readings.specs.Strings.{unixTimeOf}
 use Rattle.radio_clock_readings.proofs.instant.radio_clock_unix_time.Statement.{statement}

@@ -1,4 +1,3 @@
--- `radio_clock_readings::minutes::radio_clock_read_minute` meets its contract. Assumes nothing.
 use borrow.Author.Needs.{needs}
 use Rattle.radio_clock_readings.specs.Minutes.{readMinuteInto}
 use Rattle.radio_clock_readings.proofs.minutes.radio_clock_read_minute.Statement.{statement}

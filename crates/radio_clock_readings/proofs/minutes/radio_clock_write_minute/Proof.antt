@@ -1,4 +1,3 @@
--- `radio_clock_readings::minutes::radio_clock_write_minute` meets its contract. Assumes nothing.
 use borrow.Author.Needs.{needs}
 use Rattle.clock_time.proofs.CalledLaws.{counted-from}
 use Rattle.radio_clock_readings.proofs.minutes.radio_clock_write_minute.Statement.{statement}

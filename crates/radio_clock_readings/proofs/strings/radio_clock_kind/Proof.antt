@@ -1,4 +1,3 @@
--- `radio_clock_readings::strings::radio_clock_kind` meets its contract. Assumes nothing.
 use borrow.Author.Needs.{needs}
 use Rattle.radio_clock_readings.specs.Strings.{kindNumberOf}
 use Rattle.radio_clock_readings.proofs.strings.radio_clock_kind.Statement.{statement}

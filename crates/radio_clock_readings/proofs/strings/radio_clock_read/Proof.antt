@@ -1,4 +1,3 @@
--- `radio_clock_readings::strings::radio_clock_read` meets its contract. Assumes nothing.
 use borrow.Author.Needs.{needs}
 use native.Mathlib.Omega.{arith}
 use Rattle.time_string.specs.Kind.{readAs}

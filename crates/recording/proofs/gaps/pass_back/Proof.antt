@@ -1,5 +1,4 @@
--- `recording::gaps::pass_back` meets its contract. The loop goes down, and the nearest gap before where it stands is the
--- one before the place. Assumes nothing.
+-- The loop goes down, and the nearest gap before where it stands is the one before the place.
 use Prim.Native.Nat.{_≤_}
 use borrow.Author.Needs.{needs}
 use borrow.Author.Tests.{not-false}

@@ -1,5 +1,4 @@
--- `recording::gaps::pass_on` meets its contract. The loop goes up, and the first gap from where it stands on is the one
--- from the place on. Assumes nothing.
+-- The loop goes up, and the first gap from where it stands on is the one from the place on.
 use Prim.Native.Nat.{_-_}
 use borrow.Author.Needs.{needs}
 use mathlib.Core.Path.{_≡_, sym, _∙_}

@@ -1,5 +1,5 @@
--- `recording::numbers::fill` meets its contract. The places before where the loop stands have the rule's numbers, all
--- others are as lent, and the gap that is kept is the nearest one before. Assumes nothing.
+-- The places before where the loop stands have the rule's numbers, all others are as lent, and the gap that is kept is
+-- the nearest one before.
 use Prim.Native.Nat.{_-_}
 use borrow.Author.Needs.{needs}
 use mathlib.Core.Logic.{⊎-elim}

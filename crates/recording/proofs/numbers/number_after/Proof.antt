@@ -1,4 +1,3 @@
--- `recording::numbers::number_after` meets its contract. Assumes nothing.
 use borrow.Author.Needs.{needs}
 use mathlib.Core.Path.{sym, _∙_}
 use Rattle.recording.proofs.RuleLaws.{rule-none, rule-gap}

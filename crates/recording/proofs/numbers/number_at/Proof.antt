@@ -1,4 +1,3 @@
--- `recording::numbers::number_at` meets its contract. Assumes nothing.
 use borrow.Author.Needs.{needs}
 use mathlib.Core.Path.{sym}
 use Rattle.recording.proofs.RuleLaws.{rule-none}

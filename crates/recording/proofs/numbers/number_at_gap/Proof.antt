@@ -1,4 +1,3 @@
--- `recording::numbers::number_at_gap` meets its contract. Assumes nothing.
 use borrow.Author.Needs.{needs}
 use mathlib.Core.Path.{sym, ap, _∙_}
 use Rattle.recording.specs.Gaps.{gapOf}

@@ -1,4 +1,4 @@
--- `recording::numbers::number_between` meets its contract: the part of the marks is the run. Assumes nothing.
+-- The part of the marks is the run.
 use borrow.Author.Needs.{needs}
 use mathlib.Core.Path.{ap, _∙_}
 use Rattle.run_number.specs.Number.{runNumber}

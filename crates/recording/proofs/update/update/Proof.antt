@@ -1,4 +1,4 @@
--- `recording::update::update` meets its contract: the place is renewed, then the first gap after it. Assumes nothing.
+-- The place is renewed, then the first gap after it.
 use borrow.Author.Needs.{needs}
 use native.Mathlib.Omega.{arith}
 use mathlib.Core.Path.{sym, ap, _∙_}

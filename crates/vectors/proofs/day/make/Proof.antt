@@ -1,4 +1,4 @@
--- `vectors::day::make` is safe and ends: each turn passes a minute. Assumes nothing.
+-- `vectors::day::make` is safe and ends: each turn passes a minute.
 use Prim.Native.Nat.{_-_}
 use borrow.Author.Needs.{needs}
 use Rattle.vectors.proofs.day.make.Statement.{statement}

@@ -1,4 +1,4 @@
--- `vectors::numbers::are_of` is safe and ends: `i` goes down. Assumes nothing.
+-- `vectors::numbers::are_of` is safe and ends: `i` goes down.
 use borrow.Author.Needs.{needs}
 use Rattle.vectors.proofs.numbers.are_of.Statement.{statement}
 use Rattle.vectors.proofs.numbers.are_of.Tie as tie

@@ -1,5 +1,4 @@
 -- `vectors::numbers::bits` is safe: below zero, the bits of `value` turned over are those of a number that is not.
--- Assumes nothing.
 use borrow.Author.Needs.{needs}
 use native.Mathlib.Omega.{arith}
 use Prim.Native.Nat.{suc, _-_, _<_, _^_}

@@ -1,4 +1,4 @@
--- `vectors::numbers::put_fields` is safe and ends: each turn passes a number, and the length stays. Assumes nothing.
+-- `vectors::numbers::put_fields` is safe and ends: each turn passes a number, and the length stays.
 use Prim.Native.Nat.{_-_}
 use mathlib.Core.Path.{_≡_}
 use borrow.Author.Needs.{needs}

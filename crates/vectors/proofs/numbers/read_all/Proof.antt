@@ -1,4 +1,4 @@
--- `vectors::numbers::read_all` is safe and ends: each turn passes a number. Assumes nothing.
+-- `vectors::numbers::read_all` is safe and ends: each turn passes a number.
 use Prim.Native.Nat.{_-_}
 use borrow.Author.Needs.{needs}
 use lib.ListN.{length}

@@ -1,4 +1,4 @@
--- `vectors::numbers::wide` is safe: a wider type holds the number. Assumes nothing.
+-- `vectors::numbers::wide` is safe: a wider type holds the number.
 use borrow.Author.Needs.{needs}
 use mir.Facts.{toZ-ofZ, sfits-widen}
 use Rattle.vectors.proofs.numbers.wide.Statement.{statement}

@@ -1,4 +1,4 @@
--- `vectors::output::put_numbers` is safe and ends: each turn passes a number. Assumes nothing.
+-- `vectors::output::put_numbers` is safe and ends: each turn passes a number.
 use Prim.Native.Nat.{_-_}
 use borrow.Author.Needs.{needs}
 use Rattle.vectors.proofs.output.put_numbers.Statement.{statement}

@@ -1,4 +1,4 @@
--- `vectors::output::put_text` is safe and ends: each turn passes a byte. Assumes nothing.
+-- `vectors::output::put_text` is safe and ends: each turn passes a byte.
 use Prim.Native.Nat.{_-_}
 use borrow.Author.Needs.{needs}
 use Rattle.vectors.proofs.output.put_text.Statement.{statement}

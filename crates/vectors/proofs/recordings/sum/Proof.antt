@@ -1,4 +1,4 @@
--- `vectors::recordings::sum` is safe and ends: each turn passes a number. Assumes nothing.
+-- `vectors::recordings::sum` is safe and ends: each turn passes a number.
 use Prim.Native.Nat.{_-_}
 use borrow.Author.Needs.{needs}
 use Rattle.vectors.proofs.recordings.sum.Statement.{statement}

@@ -1,4 +1,4 @@
--- `vectors::recordings::sum_of_marks` is safe and ends: each turn passes a mark. Assumes nothing.
+-- `vectors::recordings::sum_of_marks` is safe and ends: each turn passes a mark.
 use Prim.Native.Nat.{_-_}
 use borrow.Author.Needs.{needs}
 use lib.ListN.{length}

@@ -1,4 +1,4 @@
--- `vectors::text::decode` is safe and ends: each turn passes a byte or more. Assumes nothing.
+-- `vectors::text::decode` is safe and ends: each turn passes a byte or more.
 use Prim.Native.Nat.{_-_}
 use borrow.Author.Needs.{needs}
 use lib.ListN.{length}

@@ -1,4 +1,4 @@
--- `vectors::text::pack` is safe and ends: each turn passes a byte. Assumes nothing.
+-- `vectors::text::pack` is safe and ends: each turn passes a byte.
 use Prim.Native.Nat.{_-_}
 use borrow.Author.Needs.{needs}
 use lib.ListN.{length}

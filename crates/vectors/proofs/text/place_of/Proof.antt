@@ -1,4 +1,4 @@
--- `vectors::text::place_of` meets its contract: `i` goes up from `at`, and no further than the end. Assumes nothing.
+-- `i` goes up from `at`, and no further than the end.
 use Prim.Native.Nat.{_≤_, _-_, max}
 use borrow.Author.Needs.{needs}
 use lib.ListN.{length}

@@ -31,7 +31,7 @@ list: target/bin/list_times
 outside: c-test $(LIST_TIMES)
 	python3 tests/list_times.py $(LIST_TIMES) samples/capture.bin
 
-# rt proves the crates below, then the library or the program. The C face is two crates; their archives are joined.
+# rt proves the crates below, then the library or the program. The C API is two crates; their archives are joined.
 library: $(LIBRARY)
 target/staticlib/libradio_clock.a: $(CRATES)
 	@rt staticlib radio_clock_readings >&2 && rt staticlib radio_clock_recordings >&2

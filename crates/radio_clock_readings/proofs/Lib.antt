@@ -1,2 +1,2 @@
--- Laws of the C face of readings.
+-- Laws of the C API of readings.
 pub mod StringLaws

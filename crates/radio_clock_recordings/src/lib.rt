@@ -1,4 +1,4 @@
-// The C face of recordings: the outcomes of a recording of marks. Each exported function returns 0, or the number of
+// The C API of recordings: the outcomes of a recording of marks. Each exported function returns 0, or the number of
 // its refusal, and leaves its results in memory that the caller lends. A refusal changes nothing lent.
 use recording::CorrectAnswer;
 use recording::FillAnswer;

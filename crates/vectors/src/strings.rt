@@ -1,4 +1,4 @@
-// The commands on readings, as the C face has them: a kind is its number there, and 4 for a DCF77 minute, whose text
+// The commands on readings, as the C API has them: a kind is its number there, and 4 for a DCF77 minute, whose text
 // has a digit for each mark. `read` reads a text, and adds 1 where it is written back the same; `kind` tells the kind
 // first; `write` writes numbers into a lent buffer; `unix` gives the Unix time of numbers.
 use crate::numbers;

@@ -219,9 +219,9 @@ def large_input(program):
 def single_bytes(program):
     """Reads of one byte each: a pipe of packets hands them out one by one."""
     data = capture()
-    readable, writable = os.pipe2(os.O_DIRECT)
-    child = subprocess.Popen([program], stdin=readable, stdout=subprocess.PIPE)
-    os.close(readable)
+    representable, writable = os.pipe2(os.O_DIRECT)
+    child = subprocess.Popen([program], stdin=representable, stdout=subprocess.PIPE)
+    os.close(representable)
     for byte in data:
         os.write(writable, bytes([byte]))
     os.close(writable)

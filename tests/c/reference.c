@@ -317,7 +317,7 @@ static inline bool is_reading(const int32_t *f)
 /* The zones of a receiver that knows CET and CEST only. */
 static inline bool is_central_european(const int32_t *f) { return f[7] == (f[10] == 1 ? 120 : 60); }
 
-static bool is_writable(uint8_t kind, const int32_t *f, size_t count)
+static bool is_representable(uint8_t kind, const int32_t *f, size_t count)
 {
     if (count != (kind == GPS ? 17u : 14u) || !is_reading(f))
         return false;
@@ -438,7 +438,7 @@ uint8_t reference_write(uint8_t kind, const int32_t *fields, size_t count, uint8
     static const uint8_t lengths[] = { 32, 32, 66, 21 };
     if (kind > ELV)
         return 1;
-    if (!is_writable(kind, fields, count))
+    if (!is_representable(kind, fields, count))
         return 23;
     if (room < lengths[kind])
         return 20;

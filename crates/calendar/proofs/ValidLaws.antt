@@ -8,10 +8,10 @@ use lib.IntN.{pos}
 use borrow.Author.Tests.{leb-true, ltb-true, eqb-true, le-leb}
 use Rattle.clock_time.specs.declared.ClockTime.{ClockTime}
 use Rattle.clock_time.proofs.Tests.{both}
-use Rattle.gregorian.specs.Date.{dateExists, fullYear, knownDate}
+use Rattle.gregorian.specs.Date.{dateExists, fullYear, supportedDate}
 use Rattle.calendar.specs.TimeOfDay.{timeExists, utcMinute}
 use Rattle.calendar.specs.UnixTime.{offsetInRange, isValid}
-use Rattle.gregorian.proofs.DateLaws.{Known, known, known-exists}
+use Rattle.gregorian.proofs.DateLaws.{Known, known, supported-exists}
 
 pub sixty-most : (second : ℕ) (b : Bool) → (ltb second 60 || eqb second 60 && b) ≡ true → second ≤ 60
 sixty-most second b h = go (ltb second 60) refl h
@@ -20,45 +20,45 @@ sixty-most second b h = go (ltb second 60) refl h
     go true e h = let k = ltb-true second 60 e in omega arith
     go false e h = let k = eqb-true second 60 (both (eqb second 60) b h .0) in omega (arith, k)
 
-date-exists : (y m d : ℕ) → knownDate y m d ≡ true → dateExists y m d ≡ true
-unfolding knownDate
+date-exists : (y m d : ℕ) → supportedDate y m d ≡ true → dateExists y m d ≡ true
+unfolding supportedDate
 date-exists y m d h = both (leb 1970 y && leb y 2069) (dateExists y m d) h .1
 
 pub record Valid (t : ClockTime) : Type 0 where
-  pub known-date : knownDate (t .year) (t .month) (t .day) ≡ true
+  pub supported-date : supportedDate (t .year) (t .month) (t .day) ≡ true
   pub exists : dateExists (t .year) (t .month) (t .day) ≡ true
   pub date : Known (t .year) (t .month) (t .day)
   pub time : timeExists (t .hour) (t .minute) (t .second) (t .«utc_offset») ≡ true
   pub hour : t .hour < 24
   pub minute : t .minute < 60
   pub second : t .second ≤ 60
-  pub monday : 1 ≤ t .weekday
-  pub sunday : t .weekday ≤ 7
+  pub weekday-least : 1 ≤ t .weekday
+  pub weekday-most : t .weekday ≤ 7
   pub offset : offsetInRange (t .«utc_offset») ≡ true
 
 pub valid : (t : ClockTime) → isValid t ≡ true → Valid t
 unfolding isValid timeExists
 valid t h =
-    let date = knownDate (t .year) (t .month) (t .day) in
+    let date = supportedDate (t .year) (t .month) (t .day) in
     let time = timeExists (t .hour) (t .minute) (t .second) (t .«utc_offset») in
     let leap = eqb (utcMinute (t .hour) (t .minute) (t .«utc_offset»)) 1439 in
     let last = ltb (t .second) 60 || eqb (t .second) 60 && leap in
     let offset = both (date && time && leb 1 (t .weekday) && leb (t .weekday) 7) (offsetInRange (t .«utc_offset»)) h in
-    let sunday = both (date && time && leb 1 (t .weekday)) (leb (t .weekday) 7) (offset .0) in
-    let monday = both (date && time) (leb 1 (t .weekday)) (sunday .0) in
-    let d = both date time (monday .0) in
+    let weekday-most = both (date && time && leb 1 (t .weekday)) (leb (t .weekday) 7) (offset .0) in
+    let weekday-least = both (date && time) (leb 1 (t .weekday)) (weekday-most .0) in
+    let d = both date time (weekday-least .0) in
     let w = both (ltb (t .hour) 24 && ltb (t .minute) 60) last (d .1) in
     let v = both (ltb (t .hour) 24) (ltb (t .minute) 60) (w .0) in
     record {
-      known-date = d .0;
+      supported-date = d .0;
       exists = date-exists (t .year) (t .month) (t .day) (d .0);
       date = known (t .year) (t .month) (t .day) (d .0);
       time = d .1;
       hour = ltb-true (t .hour) 24 (v .0);
       minute = ltb-true (t .minute) 60 (v .1);
       second = sixty-most (t .second) leap (w .1);
-      monday = leb-true 1 (t .weekday) (monday .1);
-      sunday = leb-true (t .weekday) 7 (sunday .1);
+      weekday-least = leb-true 1 (t .weekday) (weekday-least .1);
+      weekday-most = leb-true (t .weekday) 7 (weekday-most .1);
       offset = offset .1;
     }
 
@@ -68,9 +68,9 @@ pub checked-valid : (t : ClockTime) (n : ℕ) → t .year ≡ fullYear n → dat
     → timeExists (t .hour) (t .minute) (t .second) (t .«utc_offset») ≡ true → 1 ≤ t .weekday → t .weekday ≤ 7
     → offsetInRange (t .«utc_offset») ≡ true → isValid t ≡ true
 unfolding isValid
-checked-valid t n y date time monday sunday offset =
-    let known-date = rw (← y) at (known-exists n (t .month) (t .day)) in
-    simp (known-date, date, time, le-leb _ _ monday, le-leb _ _ sunday, offset)
+checked-valid t n y date time weekday-least weekday-most offset =
+    let supported-date = rw (← y) at (supported-exists n (t .month) (t .day)) in
+    simp (supported-date, date, time, le-leb _ _ weekday-least, le-leb _ _ weekday-most, offset)
 
 -- the year from 1970 to 2069 that ends in the last two digits of one of these years is that year
 pub year-back : (y : ℕ) → 1970 ≤ y → y ≤ 2069 → fullYear (y % 100) ≡ y

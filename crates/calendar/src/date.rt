@@ -3,7 +3,7 @@ use clock_time::Error;
 ghost use mathlib.Core.Path.{_≡_};
 ghost use mathlib.Core.Bool.{true};
 ghost use Prim.Native.Nat.{_+_, _-_, _*_, _/_, _<_};
-ghost use Rattle.gregorian.specs.Date.{knownDate, daysSinceEpoch, dayNumber, weekdayOf, weekdayOrZero};
+ghost use Rattle.gregorian.specs.Date.{supportedDate, daysSinceEpoch, dayNumber, weekdayOf, weekdayOrZero};
 ghost use Rattle.calendar.specs.DateAnswer.{dateAnswer};
 
 // A number worked out from a date, or the error.
@@ -15,7 +15,7 @@ pub enum DateAnswer {
 // Days from 1 January 1970 to a date, less 365 for each year. At 489 / 16 days a month February has 30; from March on
 // two are taken off, and the year's own leap day is counted.
 fn days_less_years(year: u16, month: u8, day: u8) -> u32
-    requires { ⌜ knownDate year month day ≡ true ⌝ }
+    requires { ⌜ supportedDate year month day ≡ true ⌝ }
     ensures { λ r. ⌜ 365 * (year - 1970) + r ≡ daysSinceEpoch year month day ⌝ }
 {
     let years = (year - 1970) as u32;
@@ -25,7 +25,7 @@ fn days_less_years(year: u16, month: u8, day: u8) -> u32
 
 // Days from 1 January 1970 to a date.
 pub(crate) fn days_since_epoch(year: u16, month: u8, day: u8) -> u32
-    requires { ⌜ knownDate year month day ≡ true ⌝ }
+    requires { ⌜ supportedDate year month day ≡ true ⌝ }
     ensures { λ r. ⌜ r ≡ daysSinceEpoch year month day ⌝ }
 {
     365 * ((year - 1970) as u32) + days_less_years(year, month, day)
@@ -35,7 +35,7 @@ pub(crate) fn days_since_epoch(year: u16, month: u8, day: u8) -> u32
 pub fn day_number(year: u16, month: u8, day: u8) -> DateAnswer
     ensures { λ r. ⌜ dateAnswer r ≡ dayNumber year month day ⌝ }
 {
-    if gregorian::is_known_date(year, month, day) {
+    if gregorian::is_supported_date(year, month, day) {
         return DateAnswer::Number(days_since_epoch(year, month, day));
     }
     DateAnswer::Refused(Error::NoSuchDate)
@@ -53,7 +53,7 @@ fn weeks(days: u32) -> u32
 pub fn weekday_or_zero(year: u16, month: u8, day: u8) -> u8
     ensures { λ r. ⌜ r ≡ weekdayOrZero year month day ⌝ }
 {
-    if gregorian::is_known_date(year, month, day) {
+    if gregorian::is_supported_date(year, month, day) {
         let days = 3 + (year - 1970) as u32 + days_less_years(year, month, day);
         return 1 + (days - 7 * weeks(days)) as u8;
     }

@@ -26,7 +26,7 @@ pub fn offset_in_range(offset: i16) -> bool
 pub fn is_valid(t: ClockTime) -> bool
     ensures { λ r. ⌜ r ≡ isValid t ⌝ }
 {
-    if gregorian::is_known_date(t.year, t.month, t.day) {
+    if gregorian::is_supported_date(t.year, t.month, t.day) {
         if (1 <= t.weekday) & (t.weekday <= 7) & offset_in_range(t.utc_offset) {
             return time_of_day::time_exists(t.hour, t.minute, t.second, t.utc_offset);
         }

@@ -72,14 +72,14 @@ gps-back g h p =
     (numbered-fit (time-fits (g .time) h z (i32Range ∷ i32Range ∷ upTo 65535 ∷ []) ∙ rest)
     (simp (time-from (g .time) h z)))
 
-pub minute-back : (a : MinuteTime) → Holds (a .time) → a .detail .marks ≤ 65535
+pub minute-back : (a : MinuteTime) → Holds (a .time) → a .detail .«first_marks» ≤ 65535
     → minuteOf (minuteNumbers a) ≡ accepted a
 unfolding minuteFrom minuteNumbers minuteRanges timeRanges timeNumbers fits
 minute-back a h marks =
     let d = a .detail in
-    let z = pos (d .marks) ∷ flagNumber (d .sixty) ∷ [] in
+    let z = pos (d .«first_marks») ∷ flagNumber (d .sixty) ∷ [] in
     let rest : fits (upTo 65535 ∷ upTo 1 ∷ []) z ≡ true =
-    simp (up-within 65535 (d .marks) marks, flag-within) in
+    simp (up-within 65535 (d .«first_marks») marks, flag-within) in
     sym
     (numbered-fit (time-fits (a .time) h z (upTo 65535 ∷ upTo 1 ∷ []) ∙ rest)
     (simp (time-from (a .time) h z, flag-back)))

@@ -20,7 +20,7 @@ time-numbers = back.time-back
 pub gps-numbers : (g : GpsTime) → Holds (g .time) → HoldsPosition (g .position) → gpsOf (gpsNumbers g) ≡ accepted g
 gps-numbers = back.gps-back
 
-pub minute-numbers : (a : MinuteTime) → Holds (a .time) → a .detail .marks ≤ 65535
+pub minute-numbers : (a : MinuteTime) → Holds (a .time) → a .detail .«first_marks» ≤ 65535
     → minuteOf (minuteNumbers a) ≡ accepted a
 minute-numbers = back.minute-back
 

@@ -113,7 +113,7 @@ gpsFrom z =
 -- the minute that 16 numbers stand for
 unfoldable pub minuteFrom : List ℤ → MinuteTime
 minuteFrom z =
-    record { time = timeFrom z; detail = record { marks = natAbs (at 14 z); sixty = isSet (at 15 z) } }
+    record { time = timeFrom z; detail = record { «first_marks» = natAbs (at 14 z); sixty = isSet (at 15 z) } }
 
 -- 23: "reading that no accepted string or minute of this format gives" (01, Refusal numbers), here because the numbers
 -- are not those of any reading

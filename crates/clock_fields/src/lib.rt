@@ -133,7 +133,7 @@ fn minute_from(z: &[i32]) -> MinuteTime
 {
     let time = time_from(z);
     let detail = MinuteDetail {
-        marks: u16_at(z, 14),
+        first_marks: u16_at(z, 14),
         sixty: flag_at(z, 15),
     };
     MinuteTime { time, detail }

@@ -43,7 +43,7 @@ gpsNumbers g =
 
 -- "a minute adds its marks 1..14 and whether it had 60 marks" (01, The reading)
 unfoldable pub minuteNumbers : MinuteTime → List ℤ
-minuteNumbers a = timeNumbers (a .time) ++ (pos (a .detail .marks) ∷ flagNumber (a .detail .sixty) ∷ [])
+minuteNumbers a = timeNumbers (a .time) ++ (pos (a .detail .«first_marks») ∷ flagNumber (a .detail .sixty) ∷ [])
 
 -- 20: "lent memory: [..] a buffer too short to write to"; "it fills the first places it needs and changes nothing after
 -- them" (01, Refusal numbers): numbers are put in front

@@ -109,7 +109,14 @@ fn put_detail(a: MinuteTime, fields: &mut [i32]) -> u8
 {
     let t = a.time;
     let d = a.detail;
-    put_with(t, number(d.marks), flag_number(d.sixty), 0, 16, fields)
+    put_with(
+        t,
+        number(d.first_marks),
+        flag_number(d.sixty),
+        0,
+        16,
+        fields,
+    )
 }
 
 // Puts the 14 numbers of a clock time that was read in front of those lent: the reader's error, then 20 where there is

@@ -54,8 +54,8 @@ module _ (m : List ℕ) where
         record {
           date = passes-exactly _ (date-exactly _ _ _) .0 (p .1 .0);
           time = passes-exactly _ (time-exactly _ _ _ _) .0 (p .1 .1 .0);
-          monday = weekday .0;
-          sunday = weekday .1;
+          weekday-least = weekday .0;
+          weekday-most = weekday .1;
         },
         λ e. leap-exactly m _ .0 (passes-leap _ _ (p .1 .1 .1 .0) e),
       )
@@ -63,7 +63,7 @@ module _ (m : List ℕ) where
   rules-time : ReadingRules (announced m) → LeapRule m (announced m) → Passes (drop 8 (minuteChecks m))
   unfolding minuteChecks
   rules-time r leap = (
-    passes-exactly _ (weekday-exactly _) .1 (r .monday, r .sunday),
+    passes-exactly _ (weekday-exactly _) .1 (r .weekday-least, r .weekday-most),
     (
       passes-exactly _ (date-exactly _ _ _) .1 (r .date),
       (
@@ -110,4 +110,4 @@ module _ (m : List ℕ) where
       let date = date-exactly _ _ _ .1 (t .date) in
       let time = time-exactly _ _ _ _ .1 (t .time) in
       let zone = zone-in-range false (long 17 m) in
-      rw (w .1) (checked-valid (announced m) (twoDigits 50 4 m) refl date time (t .monday) (t .sunday) zone)
+      rw (w .1) (checked-valid (announced m) (twoDigits 50 4 m) refl date time (t .weekday-least) (t .weekday-most) zone)

@@ -7,8 +7,8 @@ use lib.IntN.{ℤ, pos, negsuc}
 use borrow.Author.Tests.{not-true, eqb-true, leb-true, ltb-true}
 use Rattle.clock_time.specs.Same.{eqℤ}
 use Rattle.clock_time.proofs.Tests.{both}
-use Rattle.gregorian.specs.Date.{knownDate}
-use Rattle.dcf77.specs.Writable.{fieldsFit, isWritable}
+use Rattle.gregorian.specs.Date.{supportedDate}
+use Rattle.dcf77.specs.Writable.{fieldsRepresentable, minuteRepresentable}
 use Rattle.dcf77.specs.declared.MinuteTime.{MinuteTime}
 
 offset-told : (z : ℤ) (n : ℕ) → eqℤ z (pos n) ≡ true → z ≡ pos n
@@ -23,27 +23,27 @@ zone-told z false h = offset-told z 60 h
 
 -- a minute whose fields pass
 pub record Fits (a : MinuteTime) : Type 0 where
-  pub known-date : knownDate (a .time .year) (a .time .month) (a .time .day) ≡ true
+  pub supported-date : supportedDate (a .time .year) (a .time .month) (a .time .day) ≡ true
   pub zone : a .time .«utc_offset» ≡ cond (a .time .«summer_time») (pos 120) (pos 60)
-  pub monday : 1 ≤ a .time .weekday
-  pub sunday : a .time .weekday ≤ 7
+  pub weekday-least : 1 ≤ a .time .weekday
+  pub weekday-most : a .time .weekday ≤ 7
   pub hour : a .time .hour < 24
   pub minute : a .time .minute < 60
   pub second : a .time .second ≡ 0
   pub synchronised : a .time .unsynchronised ≡ false
   pub verified : a .time .unverified ≡ false
-  pub marks : a .detail .marks < 16384
+  pub marks : a .detail .«first_marks» < 16384
   pub leap : (a .detail .sixty && not (a .time .«leap_second_announced» && eqb (a .time .minute) 0)) ≡ false
 
-pub fits : (a : MinuteTime) → isWritable a ≡ true → Fits a
-unfolding isWritable fieldsFit
+pub fits : (a : MinuteTime) → minuteRepresentable a ≡ true → Fits a
+unfolding minuteRepresentable fieldsRepresentable
 fits a h =
     let t = a .time in
     let zone = eqℤ (t .«utc_offset») (cond (t .«summer_time») (pos 120) (pos 60)) in
     let z = both _ zone h in
-    let k = both _ (knownDate (t .year) (t .month) (t .day)) (z .0) in
+    let k = both _ (supportedDate (t .year) (t .month) (t .day)) (z .0) in
     let j = both _ (not (a .detail .sixty && not (t .«leap_second_announced» && eqb (t .minute) 0))) (k .0) in
-    let i = both _ (ltb (a .detail .marks) 16384) (j .0) in
+    let i = both _ (ltb (a .detail .«first_marks») 16384) (j .0) in
     let g = both _ (not (t .unverified)) (i .0) in
     let f = both _ (not (t .unsynchronised)) (g .0) in
     let e = both _ (eqb (t .second) 0) (f .0) in
@@ -51,10 +51,10 @@ fits a h =
     let c = both _ (ltb (t .hour) 24) (d .0) in
     let b = both (leb 1 (t .weekday)) (leb (t .weekday) 7) (c .0) in
     record {
-      known-date = k .1;
+      supported-date = k .1;
       zone = zone-told (t .«utc_offset») (t .«summer_time») (z .1);
-      monday = leb-true _ _ (b .0);
-      sunday = leb-true _ _ (b .1);
+      weekday-least = leb-true _ _ (b .0);
+      weekday-most = leb-true _ _ (b .1);
       hour = ltb-true _ _ (c .1);
       minute = ltb-true _ _ (d .1);
       second = eqb-true _ _ (e .1);

@@ -11,20 +11,20 @@ use Rattle.dcf77.specs.declared.MinuteTime.{MinuteTime}
 
 pub sameMinute-refl : (a : MinuteTime) → sameMinute a a ≡ true
 unfolding sameMinute
-sameMinute-refl a = simp (sameTime-refl, eq-eqb (a .detail .marks) (a .detail .marks) refl, beq-refl)
+sameMinute-refl a = simp (sameTime-refl, eq-eqb (a .detail .«first_marks») (a .detail .«first_marks») refl, beq-refl)
 
 pub sameMinute-true : (a b : MinuteTime) → sameMinute a b ≡ true → a ≡ b
 unfolding sameMinute
 sameMinute-true a b h =
-    let last = both (sameTime (a .time) (b .time) && eqb (a .detail .marks) (b .detail .marks))
+    let last = both (sameTime (a .time) (b .time) && eqb (a .detail .«first_marks») (b .detail .«first_marks»))
     (Bool·beq (a .detail .sixty) (b .detail .sixty)) h in
-    let w = both (sameTime (a .time) (b .time)) (eqb (a .detail .marks) (b .detail .marks)) (last .0) in
+    let w = both (sameTime (a .time) (b .time)) (eqb (a .detail .«first_marks») (b .detail .«first_marks»)) (last .0) in
     λ i.
     record {
       time = sameTime-true (a .time) (b .time) (w .0) i;
       detail =
           record {
-            marks = eqb-true (a .detail .marks) (b .detail .marks) (w .1) i;
+            «first_marks» = eqb-true (a .detail .«first_marks») (b .detail .«first_marks») (w .1) i;
             sixty = beq-true (a .detail .sixty) (b .detail .sixty) (last .1) i;
           };
     }

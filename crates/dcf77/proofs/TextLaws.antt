@@ -11,7 +11,7 @@ use lib.IntN.{pos}
 use lib.ListN.{length, getD, take, drop}
 use borrow.Author.Tests.{not-false, eqb-true, lt-ltb}
 use Rattle.clock_time.proofs.Tests.{both}
-use Rattle.gregorian.specs.Date.{sum, dateExists, knownDate, fullYear}
+use Rattle.gregorian.specs.Date.{sum, dateExists, supportedDate, fullYear}
 use Rattle.gregorian.proofs.DateLaws.{Known, known}
 use Rattle.gregorian.proofs.RulesLaws.{date-exactly}
 use Rattle.calendar.specs.TimeOfDay.{timeExists}
@@ -67,7 +67,7 @@ marks-differ false h = omega arith
 
 -- a run that has a minute's numbers at their places
 record Spelled (a : MinuteTime) (m : List ℕ) : Type 0 where
-  marks : binary 14 1 m ≡ a .detail .marks
+  marks : binary 14 1 m ≡ a .detail .«first_marks»
   minute : binary 4 21 m ≡ a .time .minute % 10
   minuteTens : binary 3 25 m ≡ a .time .minute / 10
   hour : binary 4 29 m ≡ a .time .hour % 10
@@ -83,7 +83,7 @@ record Spelled (a : MinuteTime) (m : List ℕ) : Type 0 where
 module _ (a : MinuteTime) (w : Fits a) where
   -- ---- the fields
   date : Known (a .time .year) (a .time .month) (a .time .day)
-  date = known _ _ _ (w .known-date)
+  date = known _ _ _ (w .supported-date)
 
   spelled : Spelled a (minuteText a)
   unfolding minuteText firstMarks bits binary
@@ -95,10 +95,10 @@ module _ (a : MinuteTime) (w : Fits a) where
         hour = binary-bits 4 _ (omega arith);
         hourTens = binary-bits 2 _ (omega arith);
         day = binary-bits 4 _ (omega arith);
-        dayTens = binary-bits 2 _ (omega (arith, date .small));
+        dayTens = binary-bits 2 _ (omega (arith, date .day-most));
         weekday = binary-bits 3 _ (omega arith);
         month = binary-bits 4 _ (omega arith);
-        monthTens = binary-bits 1 _ (omega (arith, date .month));
+        monthTens = binary-bits 1 _ (omega (arith, date .month-most));
         year = binary-bits 4 _ (omega arith);
         decade = binary-bits 4 _ (omega arith);
       }
@@ -117,7 +117,7 @@ module _ (a : MinuteTime) (w : Fits a) where
 
   year-back : fullYear (twoDigits 50 4 (minuteText a)) ≡ a .time .year
   unfolding twoDigits fullYear
-  year-back = rw (spelled .year, spelled .decade) (omega (arith, date .first, date .last))
+  year-back = rw (spelled .year, spelled .decade) (omega (arith, date .year-least, date .year-most))
 
   flags-back : (long 15 (minuteText a) ≡ a .time .«alternate_antenna»)
       × (long 16 (minuteText a) ≡ a .time .«dst_change_announced»)
@@ -157,7 +157,7 @@ module _ (a : MinuteTime) (w : Fits a) where
               «leap_second_announced» = flags-back .3 i;
               «alternate_antenna» = flags-back .0 i;
             };
-        detail = record { marks = spelled .marks i; sixty = length-back i };
+        detail = record { «first_marks» = spelled .marks i; sixty = length-back i };
       }
 
   -- ---- the rules
@@ -171,11 +171,11 @@ module _ (a : MinuteTime) (w : Fits a) where
       go false = inl refl
 
   date-exists : let t = announced (minuteText a) in dateExists (t .year) (t .month) (t .day) ≡ true
-  unfolding announced knownDate
+  unfolding announced supportedDate
   date-exists =
       let t = a .time in
       let years = leb 1970 (t .year) && leb (t .year) 2069 in
-      let k = both years (dateExists (t .year) (t .month) (t .day)) (w .known-date) in
+      let k = both years (dateExists (t .year) (t .month) (t .day)) (w .supported-date) in
       rw (year-back, month-back, day-back) (k .1)
 
   time-exists : let t = announced (minuteText a) in
@@ -241,8 +241,8 @@ module _ (a : MinuteTime) (w : Fits a) where
       record {
         date = date-exactly _ _ _ .0 date-exists;
         time = time-exactly _ _ _ _ .0 time-exists;
-        monday = omega (arith, spelled .weekday);
-        sunday = omega (arith, spelled .weekday);
+        weekday-least = omega (arith, spelled .weekday);
+        weekday-most = omega (arith, spelled .weekday);
       }
 
   pub text-keeps : KeepsRules (minuteText a)

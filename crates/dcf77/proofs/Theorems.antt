@@ -15,7 +15,7 @@ use Rattle.dcf77.specs.Minute.{minuteFields, minuteChecks, readMinute, m
 use Rattle.dcf77.specs.Says.{RunRules, LeapRule, SaysMinute}
 use Rattle.dcf77.specs.Accepts.{AcceptsMinute}
 use Rattle.dcf77.specs.Lines.{minuteLines}
-use Rattle.dcf77.specs.Writable.{isWritable}
+use Rattle.dcf77.specs.Writable.{minuteRepresentable}
 use Rattle.dcf77.specs.declared.MinuteTime.{MinuteTime}
 use Rattle.dcf77.proofs.SaysLaws.{fields-say, said-fields}
 use Rattle.dcf77.proofs.LinesLaws.{agrees}
@@ -53,5 +53,5 @@ valid-read = read-valid
 
 -- read exactly what is written: as a, the marks of a and no other run, if a is a minute that some run announces
 pub read-is-written : (m : List ℕ) (a : MinuteTime)
-    → (readMinute m ≡ accepted a) ↔ ((isWritable a ≡ true) × (minuteText a ≡ m))
+    → (readMinute m ≡ accepted a) ↔ ((minuteRepresentable a ≡ true) × (minuteText a ≡ m))
 read-is-written = written-exactly

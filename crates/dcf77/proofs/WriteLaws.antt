@@ -13,11 +13,11 @@ use Rattle.clock_time.specs.Same.{eqℤ}
 use Rattle.clock_time.specs.Writing.{isAccepted, readsBack}
 use Rattle.clock_time.proofs.BackLaws.{back-reads}
 use Rattle.clock_time.proofs.ExactLaws.{same-tests}
-use Rattle.gregorian.proofs.DateLaws.{known-exists}
+use Rattle.gregorian.proofs.DateLaws.{supported-exists}
 use Rattle.gregorian.proofs.RulesLaws.{date-exactly}
 use Rattle.dcf77.specs.Marks.{long, binary, twoDigits}
 use Rattle.dcf77.specs.Minute.{announced, minuteFields, readMinute, minuteText, sameMinute}
-use Rattle.dcf77.specs.Writable.{fieldsFit, isWritable}
+use Rattle.dcf77.specs.Writable.{fieldsRepresentable, minuteRepresentable}
 use Rattle.dcf77.specs.declared.MinuteTime.{MinuteTime}
 use Rattle.dcf77.proofs.MarkLaws.{small-sure, binary-below}
 use Rattle.dcf77.proofs.AcceptLaws.{KeepsRules, leap-passes, read-keeps, keeps-read}
@@ -40,16 +40,16 @@ module _ (m : List ℕ) (k : KeepsRules m) where
       let l = k .2 e in
       simp (eq-eqb _ _ (l .0), eq-eqb _ _ (l .2))
 
-  fields-pass : isWritable (minuteFields m) ≡ true
-  unfolding isWritable fieldsFit minuteFields announced
+  fields-pass : minuteRepresentable (minuteFields m) ≡ true
+  unfolding minuteRepresentable fieldsRepresentable minuteFields announced
   fields-pass =
       let marks : binary 14 1 m < 16384 = binary-below m (small-sure m (k .0 .sure)) 14 1 in
       let t = k .1 in
       simp (
-        known-exists (twoDigits 50 4 m) (twoDigits 45 1 m) (twoDigits 36 2 m) ∙ date-exactly _ _ _ .1 (t .date),
+        supported-exists (twoDigits 50 4 m) (twoDigits 45 1 m) (twoDigits 36 2 m) ∙ date-exactly _ _ _ .1 (t .date),
         zone-passes (long 17 m),
-        le-leb _ _ (t .monday),
-        le-leb _ _ (t .sunday),
+        le-leb _ _ (t .weekday-least),
+        le-leb _ _ (t .weekday-most),
         lt-ltb _ _ (suc-le-suc (t .time .hours)),
         lt-ltb _ _ (suc-le-suc (t .time .minutes)),
         lt-ltb _ _ marks,
@@ -61,13 +61,13 @@ is-read : (r : Answer MinuteTime) (a : MinuteTime) → isAccepted sameMinute r a
 is-read (accepted b) a h = rw (sameMinute-true b a h)
 is-read (refused k) a h = absurd (false≢true h)
 
-back-writable : (a : MinuteTime) → readsBack readMinute minuteText sameMinute a ≡ true → isWritable a ≡ true
+back-writable : (a : MinuteTime) → readsBack readMinute minuteText sameMinute a ≡ true → minuteRepresentable a ≡ true
 unfolding readsBack
 back-writable a h =
     let w = read-keeps (minuteText a) a (is-read (readMinute (minuteText a)) a h) in
     rw (w .1) (fields-pass (minuteText a) (w .0))
 
-writable-back : (a : MinuteTime) → isWritable a ≡ true → readsBack readMinute minuteText sameMinute a ≡ true
+writable-back : (a : MinuteTime) → minuteRepresentable a ≡ true → readsBack readMinute minuteText sameMinute a ≡ true
 unfolding readsBack
 writable-back a h =
     let w = fits a h in
@@ -75,13 +75,13 @@ writable-back a h =
     rw (keeps-read (minuteText a) (text-keeps a w), fields-back a w) in
     rw read (sameMinute-refl a)
 
-pub reads-writable : (a : MinuteTime) → readsBack readMinute minuteText sameMinute a ≡ isWritable a
-reads-writable a = same-tests _ (isWritable a) (back-writable a, writable-back a) (λ h. h, λ h. h)
+pub reads-representable : (a : MinuteTime) → readsBack readMinute minuteText sameMinute a ≡ minuteRepresentable a
+reads-representable a = same-tests _ (minuteRepresentable a) (back-writable a, writable-back a) (λ h. h, λ h. h)
 
 pub written-exactly : (m : List ℕ) (a : MinuteTime)
-    → (readMinute m ≡ accepted a) ↔ ((isWritable a ≡ true) × (minuteText a ≡ m))
+    → (readMinute m ≡ accepted a) ↔ ((minuteRepresentable a ≡ true) × (minuteText a ≡ m))
 unfolding readsBack
 written-exactly m a = (
-  λ h. let e = text-read m a h in (sym (reads-writable a) ∙ rw (e, h) (sameMinute-refl a), e),
-  λ w. rw (w .1) at (back-reads readMinute minuteText sameMinute sameMinute-true a (reads-writable a ∙ w .0)),
+  λ h. let e = text-read m a h in (sym (reads-representable a) ∙ rw (e, h) (sameMinute-refl a), e),
+  λ w. rw (w .1) at (back-reads readMinute minuteText sameMinute sameMinute-true a (reads-representable a ∙ w .0)),
 )

@@ -47,7 +47,7 @@ unfoldable pub minuteFields : List ℕ → MinuteTime
 minuteFields m =
     record {
       time = announced m;
-      detail = record { marks = binary 14 1 m; sixty = eqb (length m) 60 };
+      detail = record { «first_marks» = binary 14 1 m; sixty = eqb (length m) 60 };
     }
 
 -- "For a minute: 11, 12, 13, 14, 15, 16, 17, 18, 7, 5, 6, 19" (01, Refusal numbers), each line of the table at its
@@ -95,7 +95,7 @@ withParity m = m ++ (sum m % 2 ∷ [])
 unfoldable pub firstMarks : MinuteTime → List ℕ
 firstMarks a =
     let t = a .time in
-    0 ∷ bits 14 (a .detail .marks)
+    0 ∷ bits 14 (a .detail .«first_marks»)
     ++ (mark (t .«alternate_antenna») ∷ mark (t .«dst_change_announced») ∷ [])
     ++ (mark (t .«summer_time») ∷ mark (not (t .«summer_time»)) ∷ mark (t .«leap_second_announced») ∷ 1 ∷ [])
     ++ withParity (bits 4 (t .minute % 10) ++ bits 3 (t .minute / 10))
@@ -113,7 +113,7 @@ minuteText a = firstMarks a ++ cond (a .detail .sixty) (0 ∷ []) []
 unfoldable pub sameMinute : MinuteTime → MinuteTime → Bool
 sameMinute a b =
     sameTime (a .time) (b .time)
-    && eqb (a .detail .marks) (b .detail .marks)
+    && eqb (a .detail .«first_marks») (b .detail .«first_marks»)
     && Bool·beq (a .detail .sixty) (b .detail .sixty)
 
 -- "For a writer: 23, 20; it fills the first places it needs and changes nothing after them." (01, Refusal numbers)

@@ -58,11 +58,11 @@ pub(crate) fn fields(m: &[u8], minute: u32, hour: u32, date: u32) -> MinuteTime
     ensures { λ r. ⌜ r ≡ minuteFields (now (m .entry)) ⌝ }
 {
     let time = announced_time(m, minute, hour, date);
-    let marks = marks::read_eight(m, 1) + 256 * (marks::read_eight(m, 9) % 64);
+    let first = marks::read_eight(m, 1) + 256 * (marks::read_eight(m, 9) % 64);
     MinuteTime {
         time: time,
         detail: MinuteDetail {
-            marks: marks as u16,
+            first_marks: first as u16,
             sixty: m.len() == 60,
         },
     }

@@ -10,7 +10,7 @@ ghost use lib.IntN.{pos};
 ghost use Rattle.clock_time.specs.Same.{eqℤ};
 ghost use Rattle.clock_time.specs.Writing.{outcome};
 ghost use Rattle.dcf77.specs.Marks.{bits};
-ghost use Rattle.dcf77.specs.Writable.{Spells, fieldsFit, isWritable};
+ghost use Rattle.dcf77.specs.Writable.{Spells, fieldsRepresentable, minuteRepresentable};
 ghost use Rattle.dcf77.specs.Minute.{mark, withParity, firstMarks, minuteText, writeMinute};
 
 // Marks 15 to 20.
@@ -72,7 +72,7 @@ fn spell_run(a: MinuteTime) -> u64
     );
     let date = spell_date(t.day, t.weekday, t.month, t.year);
     let groups = spell_minute(t.minute) + 256 * (spell_hour(t.hour) + 128 * date);
-    2 * ((d.marks % 16384) as u64 + 16384 * (flags + 64 * groups))
+    2 * ((d.first_marks % 16384) as u64 + 16384 * (flags + 64 * groups))
 }
 
 // The bits of a number, the lowest first.
@@ -108,8 +108,8 @@ fn is_zone_offset(offset: i16, summer: bool) -> bool
 }
 
 // True where a run of marks can have the fields, but for the date and the offset.
-fn fields_fit(a: MinuteTime) -> bool
-    ensures { λ r. ⌜ r ≡ fieldsFit a ⌝ }
+fn are_fields_representable(a: MinuteTime) -> bool
+    ensures { λ r. ⌜ r ≡ fieldsRepresentable a ⌝ }
 {
     let t = a.time;
     let d = a.detail;
@@ -120,17 +120,17 @@ fn fields_fit(a: MinuteTime) -> bool
         & (t.second == 0)
         & !t.unsynchronised
         & !t.unverified
-        & (d.marks < 16384)
+        & (d.first_marks < 16384)
         & !(d.sixty & !(t.leap_second_announced & (t.minute == 0)))
 }
 
 // True where a run of marks is read as the minute.
-fn is_writable(a: MinuteTime) -> bool
-    ensures { λ r. ⌜ r ≡ isWritable a ⌝ }
+fn is_representable(a: MinuteTime) -> bool
+    ensures { λ r. ⌜ r ≡ minuteRepresentable a ⌝ }
 {
     let t = a.time;
-    let fits = fields_fit(a);
-    let known = gregorian::is_known_date(t.year, t.month, t.day);
+    let fits = are_fields_representable(a);
+    let known = gregorian::is_supported_date(t.year, t.month, t.day);
     let zone = is_zone_offset(t.utc_offset, t.summer_time);
     fits & known & zone
 }
@@ -140,6 +140,6 @@ pub(crate) fn write_run(a: MinuteTime, run: &[u8], out: &mut [u8]) -> WriteAnswe
     requires { ⌜ now run ≡ minuteText a ⌝ }
     ensures { λ r. ⌜ outcome r (now (out .exit)) ≡ writeMinute a (now (out .entry)) ⌝ }
 {
-    let writable = is_writable(a);
+    let writable = is_representable(a);
     clock_time::write_bytes(writable, run, out)
 }

@@ -12,9 +12,9 @@ use Rattle.clock_time.specs.Order.{Line, numbersOf}
 use Rattle.clock_time.specs.declared.ClockTime.{ClockTime}
 use Rattle.clock_time.proofs.ExactLaws.{eq-exactly, le-exactly, lt-exactly, not-exactly, either-exactly}
 use Rattle.clock_time.proofs.OrderLaws.{Agree, agree-append}
-use Rattle.gregorian.specs.Date.{knownDate}
+use Rattle.gregorian.specs.Date.{supportedDate}
 use Rattle.calendar.specs.UnixTime.{isValid}
-use Rattle.gregorian.proofs.RulesLaws.{known-exactly}
+use Rattle.gregorian.proofs.RulesLaws.{supported-exactly}
 use Rattle.calendar.proofs.RulesLaws.{valid-exactly}
 use Rattle.meinberg_gps.specs.Gps.{gps}
 use Rattle.elv_dcf7000.specs.Elv.{elv}
@@ -80,8 +80,8 @@ pub instant-agrees : (t : ClockTime) → Agree (given 23 (not (isValid t)) ∷ [
 instant-agrees t = (refl, not-exactly _ (valid-exactly t), λ p. tt)
 
 pub date-agrees : (year month day : ℕ) →
-    Agree (given 5 (not (knownDate year month day)) ∷ []) (dateLines year month day)
-date-agrees year month day = (refl, not-exactly _ (known-exactly year month day), λ p. tt)
+    Agree (given 5 (not (supportedDate year month day)) ∷ []) (dateLines year month day)
+date-agrees year month day = (refl, not-exactly _ (supported-exactly year month day), λ p. tt)
 
 -- ---- from C
 room-agrees : (count : ℕ) (fields : List ℤ) → Agree (roomCheck count fields ∷ []) (roomFor count fields ∷ [])

@@ -39,10 +39,10 @@ pub valid-holds : (t : ClockTime) → isValid t ≡ true → Holds t
 valid-holds t h =
     let v = valid t h in
     record {
-      year = omega (arith, v .date .last);
-      month = omega (arith, v .date .month);
-      day = omega (arith, v .date .small);
-      weekday = omega (arith, v .sunday);
+      year = omega (arith, v .date .year-most);
+      month = omega (arith, v .date .month-most);
+      day = omega (arith, v .date .day-most);
+      weekday = omega (arith, v .weekday-most);
       hour = omega (arith, v .hour);
       minute = omega (arith, v .minute);
       second = omega (arith, v .second);
@@ -69,7 +69,7 @@ position-holds s g h =
     })
 
 -- ---- a minute
-pub marks-small : (m : List ℕ) (a : MinuteTime) → readMinute m ≡ accepted a → a .detail .marks ≤ 65535
+pub marks-small : (m : List ℕ) (a : MinuteTime) → readMinute m ≡ accepted a → a .detail .«first_marks» ≤ 65535
 unfolding minuteFields
 marks-small m a h =
     let r = read-keeps m a h in

@@ -15,11 +15,11 @@ use Rattle.clock_time.specs.Same.{eqℤ, sameFields, sameTime}
 use Rattle.clock_time.specs.declared.ClockTime.{ClockTime}
 use Rattle.clock_time.proofs.SameLaws.{eqℤ-refl, eqb-refl, beq-refl, beq-true, sameTime-true}
 use Rattle.clock_time.proofs.Tests.{both, below-at}
-use Rattle.gregorian.specs.Date.{dateExists, fullYear, knownDate, weekdayNumber, weekdayOrZero}
+use Rattle.gregorian.specs.Date.{dateExists, fullYear, supportedDate, weekdayNumber, weekdayOrZero}
 use Rattle.calendar.specs.TimeOfDay.{timeExists}
 use Rattle.calendar.specs.UnixTime.{isValid}
 use Rattle.calendar.proofs.ValidLaws.{zone-in-range}
-use Rattle.gregorian.proofs.DateLaws.{known-exists}
+use Rattle.gregorian.proofs.DateLaws.{supported-exists}
 use Rattle.decimal.specs.Decimal.{digits, value, valueFrom}
 use Rattle.decimal.proofs.DecimalLaws.{digit-range, digit-written, value-digits}
 use Rattle.layout.specs.Ascii.{ascii}
@@ -31,11 +31,11 @@ use Rattle.layout.proofs.AcceptLaws.{PassesText}
 use Rattle.layout.proofs.WriteLaws.{restore-fits, digits-number, digits-year}
 use Rattle.layout.proofs.DecideLaws.{numbers-written, DecidesClock}
 use Rattle.elv_dcf7000.specs.Elv.{elvLayout, elvFlags, elvFlagFault, summerIn, changeIn, unsynchronisedIn}
-use Rattle.elv_dcf7000.specs.Elv.{elvOffset, sentFields, withWeekday, elvFields, flagSum, elvText, elvCarries}
+use Rattle.elv_dcf7000.specs.Elv.{elvOffset, sentFields, withWeekday, elvFields, flagSum, elvText, elvRepresentable}
 use Rattle.elv_dcf7000.specs.Elv.{elv, readElv}
 
 -- ---- the weekday
-pub weekday-range : (y m d : ℕ) → knownDate y m d ≡ true
+pub weekday-range : (y m d : ℕ) → supportedDate y m d ≡ true
     → (leb 1 (weekdayOrZero y m d) && leb (weekdayOrZero y m d) 7) ≡ true
 unfolding weekdayOrZero weekdayNumber
 weekday-range y m d h =
@@ -52,7 +52,7 @@ onItsDay (refused k) = refused k
 day-checks : (t : ClockTime) (n : ℕ) → t .year ≡ fullYear n → t .weekday ≡ 1
     → onItsDay (checked (clockChecks t false) t) ≡ checked (clockChecks (withWeekday t) false) (withWeekday t)
 unfolding clockChecks withWeekday
-day-checks t n year monday =
+day-checks t n year weekday-least =
     go (dateExists (t .year) (t .month) (t .day)) (timeExists (t .hour) (t .minute) (t .second) (t .«utc_offset»)) refl
   where
     go : (d x : Bool) → dateExists (t .year) (t .month) (t .day) ≡ d
@@ -64,8 +64,8 @@ day-checks t n year monday =
     go false x e = refl
     go true false e = refl
     go true true e =
-        let known = rw (← year) at (known-exists n (t .month) (t .day)) in
-        rw (monday, weekday-range (t .year) (t .month) (t .day) (known ∙ e))
+        let known = rw (← year) at (supported-exists n (t .month) (t .day)) in
+        rw (weekday-least, weekday-range (t .year) (t .month) (t .day) (known ∙ e))
 
 -- ---- the flags
 module _ {s : List ℕ} (h : FitsLayout elvLayout s) where
@@ -172,9 +172,9 @@ flags-digits t =
     value-digits 2 (flagsOf t)
     (omega (arith, flags-small (t .«summer_time») (t .«dst_change_announced») (t .unsynchronised)))
 
-fields-carried : (s : List ℕ) → elvCarries (elvFields s) ≡ true
-unfolding elvCarries elvFields withWeekday sentFields
-fields-carried s = simp (eqℤ-refl, eqb-refl)
+fields-representable : (s : List ℕ) → elvRepresentable (elvFields s) ≡ true
+unfolding elvRepresentable elvFields withWeekday sentFields
+fields-representable s = simp (eqℤ-refl, eqb-refl)
 
 text-faultless : (t : ClockTime) → elvFlagFault (elvText t) ≡ false
 unfolding elvFlagFault elvText ascii digits flagsOf
@@ -182,8 +182,8 @@ text-faultless t =
     rw (flags-digits t)
     (le-ltb 7 (flagsOf t) (flags-small (t .«summer_time») (t .«dst_change_announced») (t .unsynchronised)))
 
-text-says : (t : ClockTime) → isValid t ≡ true → elvCarries t ≡ true → elvFields (elvText t) ≡ t
-unfolding elvCarries elvFields withWeekday sentFields elvText ascii digits sameTime sameFields flagsOf
+text-says : (t : ClockTime) → isValid t ≡ true → elvRepresentable t ≡ true → elvFields (elvText t) ≡ t
+unfolding elvRepresentable elvFields withWeekday sentFields elvText ascii digits sameTime sameFields flagsOf
 text-says t h k =
     let zone = eqℤ (elvOffset (t .«summer_time»)) (t .«utc_offset») in
     let day = eqb (weekdayOrZero (t .year) (t .month) (t .day)) (t .weekday) in
@@ -208,13 +208,13 @@ text-says t h k =
       beq-refl,
     ))
 
-pub decides : DecidesClock elvLayout elvFlagFault elvFields elvText elvCarries
+pub decides : DecidesClock elvLayout elvFlagFault elvFields elvText elvRepresentable
 unfolding elvFields withWeekday sentFields elvOffset
 decides =
     record {
       year = λ s. (number 2 0 s, refl);
       offset = λ s. zone-in-range false (summerIn (elvFlags s));
-      carried = fields-carried;
+      read-representable = fields-representable;
       fits = text-fits;
       faultless = text-faultless;
       says = text-says;

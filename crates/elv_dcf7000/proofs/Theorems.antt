@@ -19,7 +19,7 @@ use Rattle.layout.specs.Picture.{AsDrawn}
 use Rattle.layout.specs.Says.{twoDigitsAt}
 use Rattle.layout.proofs.DecideLaws.{clock-valid, clock-written}
 use Rattle.layout.proofs.Theorems as text
-use Rattle.elv_dcf7000.specs.Elv.{elvText, elvCarries, elv, readElv, writeElv}
+use Rattle.elv_dcf7000.specs.Elv.{elvText, elvRepresentable, elv, readElv, writeElv}
 use Rattle.elv_dcf7000.specs.Accepts.{AcceptsElv}
 use Rattle.elv_dcf7000.specs.Says.{elvPicture, SaysElv}
 use Rattle.elv_dcf7000.specs.Lines.{elvLines}
@@ -61,10 +61,10 @@ pub weekday-read : (s : List ℕ) (t : ClockTime) → readElv s ≡ accepted t
     → weekdayOf (t .year) (t .month) (t .day) ≡ accepted (t .weekday)
 weekday-read s t h =
     let r = read-elv-exactly s t .0 h in
-    weekday-of-exactly _ _ _ _ .1 (r .1 .weekday (r .3 .date), valid t (valid-read s t h) .date .last)
+    weekday-of-exactly _ _ _ _ .1 (r .1 .weekday (r .3 .date), valid t (valid-read s t h) .date .year-most)
 
--- read exactly what is written: as t, the text of t and no other string, if t is a valid reading that it can say
+-- read exactly what is written: as t, the text of t and no other string, if t is a valid reading that it can represent
 pub read-is-written : (s : List ℕ) (t : ClockTime)
-    → (readElv s ≡ accepted t) ↔ (((isValid t && elvCarries t) ≡ true) × (elvText t ≡ s))
+    → (readElv s ≡ accepted t) ↔ (((isValid t && elvRepresentable t) ≡ true) × (elvText t ≡ s))
 unfolding readElv elv
 read-is-written = clock-written decides elv-back

@@ -106,9 +106,9 @@ lineWith t flags =
 unfoldable pub elvText : ClockTime → List ℕ
 elvText t = lineWith t (flagSum (t .«summer_time») (t .«dst_change_announced») (t .unsynchronised))
 
--- the clock times that an ELV string can say, the rest of a reading being as it is
-unfoldable pub elvCarries : ClockTime → Bool
-elvCarries t =
+-- the clock times that an ELV string can represent, the rest of a reading being as it is
+unfoldable pub elvRepresentable : ClockTime → Bool
+elvRepresentable t =
     eqℤ (elvOffset (t .«summer_time»)) (t .«utc_offset»)
     && eqb (weekdayOrZero (t .year) (t .month) (t .day)) (t .weekday)
     && not (t .unverified)

@@ -3,7 +3,7 @@ use clock_time::ClockTime;
 use clock_time::WriteAnswer;
 ghost use mathlib.Core.Path.{_≡_};
 ghost use Rattle.clock_time.specs.Writing.{outcome};
-ghost use Rattle.elv_dcf7000.specs.Elv.{flagSum, lineWith, elvText, elvCarries, writeElv};
+ghost use Rattle.elv_dcf7000.specs.Elv.{flagSum, lineWith, elvText, elvRepresentable, writeElv};
 
 fn flag_sum(summer: bool, change: bool, unsynchronised: bool) -> u8
     ensures { λ r. ⌜ r ≡ flagSum summer change unsynchronised ⌝ }
@@ -54,9 +54,9 @@ fn text_of(t: ClockTime) -> [u8; 21]
     line_with(t, flags)
 }
 
-// Whether an ELV string can say what `t` says.
-fn is_carried(t: ClockTime) -> bool
-    ensures { λ r. ⌜ r ≡ elvCarries t ⌝ }
+// Whether an ELV string can represent `t`.
+fn is_representable(t: ClockTime) -> bool
+    ensures { λ r. ⌜ r ≡ elvRepresentable t ⌝ }
 {
     let zone = clock_time::same_offset(elv_dcf7000::offset_of(t.summer_time), t.utc_offset);
     let weekday = calendar::date::weekday_or_zero(t.year, t.month, t.day);
@@ -69,6 +69,6 @@ pub fn write_elv(t: ClockTime, out: &mut [u8]) -> WriteAnswer
     ensures { λ r. ⌜ outcome r (now (out .exit)) ≡ writeElv t (now (out .entry)) ⌝ }
 {
     let line = text_of(t);
-    let readable = calendar::unix_time::is_valid(t) & is_carried(t);
-    clock_time::write_bytes(readable, &line, out)
+    let representable = calendar::unix_time::is_valid(t) & is_representable(t);
+    clock_time::write_bytes(representable, &line, out)
 }

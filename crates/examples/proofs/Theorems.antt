@@ -2,7 +2,7 @@
 use mathlib.Core.Path.{refl}
 use mathlib.Core.List.{Option·toList}
 use Rattle.clock_time.specs.Same.{eqℤ}
-use Rattle.gregorian.specs.Date.{isLeapYear, monthLengths, daysInMonth, dateExists, fullYear, knownDate, daysOfYears}
+use Rattle.gregorian.specs.Date.{isLeapYear, monthLengths, daysInMonth, dateExists, fullYear, supportedDate, daysOfYears}
 use Rattle.gregorian.specs.Date.{daysBeforeMonth, daysSinceEpoch}
 use Rattle.calendar.specs.TimeOfDay.{modulo, utcMinute, timeExists}
 use Rattle.calendar.specs.UnixTime.{offsetInRange, isValid, instantOf, unixTime}
@@ -27,7 +27,7 @@ pub examples-hold : AllHold examples
 unfolding
     readGps gps readText textChecks clockChecks gpsLayout ascii allowed errorAt offence first isDigit valueFrom
     offsetFault offsetOf signHolds signed leapMismatch clockOf gpsFields positionFault positionDigits angleDigits
-    rightAligned areDigits inRange angleOf positionOf isLeapYear monthLengths daysInMonth dateExists fullYear knownDate
+    rightAligned areDigits inRange angleOf positionOf isLeapYear monthLengths daysInMonth dateExists fullYear supportedDate
     daysOfYears daysBeforeMonth daysSinceEpoch modulo utcMinute timeExists offsetInRange isValid instantOf unixTime
     fillOutcomes correctMark numbers differ differences ruleBy reached Option·toList gapBefore firstGap gapAfter
     runNumber readMinute minuteChecks minuteFields announced allSure binary twoDigits longs isOdd eqℤ

@@ -93,7 +93,7 @@ marks3 =
 
 -- what P3 reads
 abbrev pub minute3 : MinuteTime
-minute3 = record { time = clockTime 2006 11 8 3 14 39 0 (pos 60); detail = record { marks = 0; sixty = false } }
+minute3 = record { time = clockTime 2006 11 8 3 14 39 0 (pos 60); detail = record { «first_marks» = 0; sixty = false } }
 
 -- P3
 abbrev pub p3 : Example

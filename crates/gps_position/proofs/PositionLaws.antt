@@ -14,7 +14,7 @@ use Rattle.layout.specs.Layout.{run, number}
 use Rattle.gps_position.specs.Aligned.{areDigits, rightAligned, digitsOrBlanks}
 use Rattle.gps_position.specs.Position.{Angle, latitude, longitude, wholePart, decimals, angleDigits}
 use Rattle.gps_position.specs.Position.{positionDigits, hemisphere, angleSize, inRange, positionFault}
-use Rattle.gps_position.specs.Position.{angleOf, positionOf, readPosition, positionFrom, positionCarried}
+use Rattle.gps_position.specs.Position.{angleOf, positionOf, readPosition, positionFrom, positionRepresentable}
 use Rattle.signed.proofs.SignedLaws.{sign-limit, signed-size}
 use Rattle.gps_position.proofs.AlignedLaws.{digits-plain, aligned-plain, aligned-end, value-small}
 
@@ -98,10 +98,10 @@ faultless s h =
       longitude-range = w .1;
     }
 
--- what is read can be said
-pub position-carried : (s : List ℕ) → positionFault s ≡ false → positionCarried (positionOf s) ≡ true
-unfolding positionCarried positionOf angleOf
-position-carried s h =
+-- what is read is representable
+pub position-representable : (s : List ℕ) → positionFault s ≡ false → positionRepresentable (positionOf s) ≡ true
+unfolding positionRepresentable positionOf angleOf
+position-representable s h =
     let f = faultless s h in
     let high : number 4 60 s ≤ 9999 = omega (arith, value-small (run 60 4 s) (f .stand .height-plain)) in
     simp (

@@ -1,4 +1,4 @@
--- A position is made of the bytes of its parts, and one that can be said is read as it was written.
+-- A position is made of the bytes of its parts, and a representable one is read as it was written.
 use Prim.Native.Nat.{ℕ, _*_, _/_, _^_, _≤_, _<_}
 use Prim.Native.Char.{code}
 use native.Mathlib.Omega.{arith}
@@ -20,7 +20,7 @@ use Rattle.signed.proofs.SignedLaws.{sign-read, sign-written}
 use Rattle.gps_position.specs.Aligned.{padded, aligned}
 use Rattle.gps_position.specs.Position.{Angle, latitude, longitude, wholePart, decimals, hemisphere, angleSize}
 use Rattle.gps_position.specs.Position.{angleDigits, positionDigits, inRange, positionFault, angleOf, positionOf}
-use Rattle.gps_position.specs.Position.{angleBytes, angleText, positionText, positionCarried}
+use Rattle.gps_position.specs.Position.{angleBytes, angleText, positionText, positionRepresentable}
 use Rattle.gps_position.proofs.AlignedWrittenLaws.{value-aligned, aligned-right, four-digits, value-after}
 
 -- ---- an angle
@@ -78,9 +78,9 @@ pub record PositionRead (p : Position) (s : List ℕ) : Type 0 where
   pub faultless : positionFault s ≡ false
   pub same : positionOf s ≡ p
 
-pub position-read : (p : Position) → positionCarried p ≡ true → (s : List ℕ) → run 41 23 s ≡ positionText p
+pub position-read : (p : Position) → positionRepresentable p ≡ true → (s : List ℕ) → run 41 23 s ≡ positionText p
     → PositionRead p s
-unfolding positionCarried positionFault positionDigits positionOf
+unfolding positionRepresentable positionFault positionDigits positionOf
 position-read p h s e =
     let north = leb (natAbs (p .latitude)) 900000 in
     let east = leb (natAbs (p .longitude)) 1800000 in

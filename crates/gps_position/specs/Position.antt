@@ -109,9 +109,9 @@ positionText p =
     angleText latitude (p .latitude) ++ ascii " " ++ angleText longitude (p .longitude) ++ ascii " "
     ++ aligned 4 (p .height)
 
--- the positions that these bytes can say
-unfoldable pub positionCarried : Position → Bool
-positionCarried p =
+-- the positions that these bytes can represent
+unfoldable pub positionRepresentable : Position → Bool
+positionRepresentable p =
     leb (natAbs (p .latitude)) (latitude .limit)
     && leb (natAbs (p .longitude)) (longitude .limit)
     && leb (p .height) 9999

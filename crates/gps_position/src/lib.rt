@@ -10,7 +10,7 @@ ghost use Rattle.layout.specs.Layout.{number};
 ghost use Rattle.decimal.specs.Decimal.{value};
 ghost use Rattle.gps_position.specs.Aligned.{areDigits, rightAligned, digitsOrBlanks};
 ghost use Rattle.gps_position.specs.Position.{positionDigits, positionFrom, readPosition, positionAnswer};
-ghost use Rattle.gps_position.specs.Position.{positionText, positionCarried};
+ghost use Rattle.gps_position.specs.Position.{positionText, positionRepresentable};
 
 mod digits;
 mod text;
@@ -130,9 +130,9 @@ pub fn position_text(p: Position) -> PositionText
     ]
 }
 
-// Whether a position is one that these bytes can say.
-pub fn is_carried(p: Position) -> bool
-    ensures { λ r. ⌜ r ≡ positionCarried p ⌝ }
+// Whether a position is one that these bytes can represent.
+pub fn is_representable(p: Position) -> bool
+    ensures { λ r. ⌜ r ≡ positionRepresentable p ⌝ }
 {
     (signed::size(p.latitude) <= 900000)
         & (signed::size(p.longitude) <= 1800000)

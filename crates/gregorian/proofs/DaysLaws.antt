@@ -12,13 +12,13 @@ use lib.ListN.{getD, take}
 use borrow.Author.Tests.{le-leb, ne-eqb, not-false}
 use Rattle.clock_time.specs.Errors.{accepted, given, checked}
 use Rattle.clock_time.proofs.ErrorLaws.{accepted-passes}
-use Rattle.gregorian.specs.Date.{isLeapYear, monthLengths, daysInMonth, dateExists, knownDate, sum, daysOfYears}
+use Rattle.gregorian.specs.Date.{isLeapYear, monthLengths, daysInMonth, dateExists, supportedDate, sum, daysOfYears}
 use Rattle.gregorian.specs.Date.{daysBeforeMonth, daysSinceEpoch, dayNumber, weekdayNumber, weekdayOf}
 use Rattle.gregorian.specs.Date.{weekdayOrZero}
 use Rattle.gregorian.specs.Rules.{GregorianDate}
 use Rattle.gregorian.specs.Days.{DayAfter, epoch, next-day, next-month, next-year, OnWeekday}
 use Rattle.gregorian.proofs.DateLaws.{every-month}
-use Rattle.gregorian.proofs.RulesLaws.{date-exactly, most-days, known-exactly}
+use Rattle.gregorian.proofs.RulesLaws.{date-exactly, most-days, supported-exactly}
 
 -- ---- months
 -- a month begins where the one before it ends
@@ -82,7 +82,7 @@ counted-epoch = (date-exactly 1970 1 1 .0 refl, omega arith, refl)
 counted-day : {n year month day : ℕ} → Counted n year month day → GregorianDate year month (suc day)
     → Counted (suc n) year month (suc day)
 unfolding daysSinceEpoch
-counted-day c next = (next, c .1, omega (arith, c .2, c .0 .first))
+counted-day c next = (next, c .1, omega (arith, c .2, c .0 .day-least))
 
 -- a day with none after it in its month is the month's last
 last-day : (year month day : ℕ) → GregorianDate year month day → (GregorianDate year month (suc day) → ⊥)
@@ -97,10 +97,10 @@ counted-month : (n year month day : ℕ) → Counted n year month day → (Grego
 unfolding daysSinceEpoch
 counted-month n year month day c last more =
     let d = c .0 in
-    let begins = next-begins year month (d .january) (d .december) in (
+    let begins = next-begins year month (d .month-least) (d .month-most) in (
       day-exists year (suc month) 1 (omega arith) (month-begins year (suc month) (omega arith) (omega arith)),
       c .1,
-      omega (arith, c .2, d .first, begins, last-day year month day d last),
+      omega (arith, c .2, d .day-least, begins, last-day year month day d last),
     )
 
 counted-year : (n year : ℕ) → Counted n year 12 31 → Counted (suc n) (suc year) 1 1
@@ -160,10 +160,10 @@ walked n year month day c =
     let d = c .0 in
     let e : 1970 + (year - 1970) ≡ year = omega (arith, c .1) in
     let january = rw e at (years-walked (year - 1970)) in
-    let first = months-walked (month - 1) january (omega (arith, d .january, d .december)) in
-    let this : suc (month - 1) ≡ month = omega (arith, d .january) in
-    let date = days-walked (day - 1) (rw this at first) (omega (arith, d .first, most-days year month day d)) in
-    let same : suc (day - 1) ≡ day = omega (arith, d .first) in
+    let first = months-walked (month - 1) january (omega (arith, d .month-least, d .month-most)) in
+    let this : suc (month - 1) ≡ month = omega (arith, d .month-least) in
+    let date = days-walked (day - 1) (rw this at first) (omega (arith, d .day-least, most-days year month day d)) in
+    let same : suc (day - 1) ≡ day = omega (arith, d .day-least) in
     rw (c .2) (rw same at date)
 
 -- ---- the weekday
@@ -171,7 +171,7 @@ pub weekday-counted : (year month day w : ℕ) → OnWeekday year month day w
     ↔ (GregorianDate year month day × (1970 ≤ year) × (w ≡ weekdayNumber year month day))
 unfolding weekdayNumber
 weekday-counted year month day w = (
-  λ o. let c = counted (o .date) in (c .0, c .1, omega (arith, c .2, o .thursday, o .monday, o .sunday)),
+  λ o. let c = counted (o .date) in (c .0, c .1, omega (arith, c .2, o .thursday, o .weekday-least, o .weekday-most)),
   λ h.
       let days = daysSinceEpoch year month day in
       record {
@@ -179,21 +179,21 @@ weekday-counted year month day w = (
         date = walked days year month day (h .0, h .1, refl);
         weeks = (days + 3) / 7;
         thursday = omega (arith, h .2);
-        monday = omega (arith, h .2);
-        sunday = omega (arith, h .2);
+        weekday-least = omega (arith, h .2);
+        weekday-most = omega (arith, h .2);
       },
 )
 
 -- ---- the answers
 -- a number of a date that is known
 module _ (year month day number : ℕ) where
-  answered : (n : ℕ) → (checked (given 5 (not (knownDate year month day)) ∷ []) number ≡ accepted n)
+  answered : (n : ℕ) → (checked (given 5 (not (supportedDate year month day)) ∷ []) number ≡ accepted n)
       ↔ ((1970 ≤ year) × (year ≤ 2069) × GregorianDate year month day × (n ≡ number))
   answered n = (
     λ h.
-        let w = accepted-passes (given 5 (not (knownDate year month day)) ∷ []) number n h in
-        let k = known-exactly year month day .0 (not-false _ (w .0 .0)) in (k .0, k .1, k .2, w .1),
-    λ k. rw (known-exactly year month day .1 (k .0, k .1, k .2), k .3),
+        let w = accepted-passes (given 5 (not (supportedDate year month day)) ∷ []) number n h in
+        let k = supported-exactly year month day .0 (not-false _ (w .0 .0)) in (k .0, k .1, k .2, w .1),
+    λ k. rw (supported-exactly year month day .1 (k .0, k .1, k .2), k .3),
   )
 
 pub day-answered : (year month day n : ℕ) → (dayNumber year month day ≡ accepted n)
@@ -221,16 +221,16 @@ module _ (year month day w : ℕ) (first : 1970 ≤ year) (last : year ≤ 2069)
       ↔ ((GregorianDate year month day → OnWeekday year month day w)
       × ((GregorianDate year month day → ⊥) → w ≡ 0))
   unfolding weekdayOrZero
-  weekday-or-zero = go (knownDate year month day) refl
+  weekday-or-zero = go (supportedDate year month day) refl
     where
-      go : (t : Bool) → knownDate year month day ≡ t → (w ≡ cond t (weekdayNumber year month day) 0)
+      go : (t : Bool) → supportedDate year month day ≡ t → (w ≡ cond t (weekdayNumber year month day) 0)
           ↔ ((GregorianDate year month day → OnWeekday year month day w)
           × ((GregorianDate year month day → ⊥) → w ≡ 0))
       go true e =
-          let date = known-exactly year month day .0 e .2 in
+          let date = supported-exactly year month day .0 e .2 in
           let c = weekday-counted year month day w in
           (λ h. (λ d. c .1 (d, first, h), λ none. absurd (none date)), λ r. c .0 (r .0 date) .2)
       go false e =
           let none : GregorianDate year month day → ⊥ =
-          λ d. true≢false (sym (known-exactly year month day .1 (first, last, d)) ∙ e) in
+          λ d. true≢false (sym (supported-exactly year month day .1 (first, last, d)) ∙ e) in
           (λ h. (λ d. absurd (none d), λ n. h), λ r. r .1 none)

@@ -20,5 +20,5 @@ pub record OnWeekday (year month day weekday : ℕ) : Type 0 where
   -- 1 January 1970 was a Thursday, the fourth day of its week, and a week has seven days
   pub weeks : ℕ
   pub thursday : days + 4 ≡ 7 * weeks + weekday
-  pub monday : 1 ≤ weekday
-  pub sunday : weekday ≤ 7
+  pub weekday-least : 1 ≤ weekday
+  pub weekday-most : weekday ≤ 7

@@ -20,8 +20,8 @@ pub record PassesClock (l : List ℕ) (t : ClockTime) (s : List ℕ) : Type 0 wh
   pub fits : FitsLayout l s
   pub date : dateExists (t .year) (t .month) (t .day) ≡ true
   pub time : timeExists (t .hour) (t .minute) (t .second) (t .«utc_offset») ≡ true
-  pub monday : 1 ≤ t .weekday
-  pub sunday : t .weekday ≤ 7
+  pub weekday-least : 1 ≤ t .weekday
+  pub weekday-most : t .weekday ≤ 7
 
 -- a string that passes: the rules that all formats share hold of it, and the format's own tests find no fault
 pub record PassesText {A : Type 0} (f : Format A) (s : List ℕ) : Type 0 where
@@ -51,8 +51,8 @@ module _ {A : Type 0} (f : Format A) (s : List ℕ) where
             fits = none-found (f .layout) s (eqb-true _ _ (not-false _ (p .0))) (p .1 .0) (p .1 .1 .0) (flags .0);
             date = not-false _ (c .0);
             time = not-false _ (time .0);
-            monday = leb-true _ _ (weekday .0);
-            sunday = leb-true _ _ (weekday .1);
+            weekday-least = leb-true _ _ (weekday .0);
+            weekday-most = leb-true _ _ (weekday .1);
           };
           flags = flags .1;
           offset = r .1 .0;
@@ -82,7 +82,7 @@ module _ {A : Type 0} (f : Format A) (s : List ℕ) where
                     simp (r .clock .date),
                     (
                       simp (r .clock .time, r .agrees),
-                      (simp (le-leb _ _ (r .clock .monday), le-leb _ _ (r .clock .sunday)), tt),
+                      (simp (le-leb _ _ (r .clock .weekday-least), le-leb _ _ (r .clock .weekday-most)), tt),
                     ),
                   ),
                 ),

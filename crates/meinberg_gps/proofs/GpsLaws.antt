@@ -15,8 +15,8 @@ use Rattle.layout.proofs.LayoutLaws.{tested-fits}
 use Rattle.layout.proofs.DecideLaws.{letter-fits, letter-read, numbers-written, Decides}
 use Rattle.layout.proofs.DecideLaws as text
 use Rattle.gps_position.specs.Aligned.{padded, aligned}
-use Rattle.gps_position.specs.Position.{angleBytes, positionText, positionCarried}
-use Rattle.gps_position.proofs.PositionLaws.{position-carried}
+use Rattle.gps_position.specs.Position.{angleBytes, positionText, positionRepresentable}
+use Rattle.gps_position.proofs.PositionLaws.{position-representable}
 use Rattle.gps_position.proofs.PositionWrittenLaws.{PositionRead, position-read}
 use Rattle.meinberg_pzf.specs.Pzf.{pzfText}
 use Rattle.meinberg_gps.specs.Gps.{gpsLayout, offsetText, leapMismatch, clockOf, gpsFields, lineWith, gpsText}
@@ -27,7 +27,7 @@ use Rattle.meinberg_gps.proofs.OffsetLaws.{OffsetRead, offset-read, off
 use Rattle.meinberg_gps.proofs.BackLaws.{sameGps-refl, sameGps-true}
 
 abbrev pub gpsCarries : GpsTime → Bool
-gpsCarries g = positionCarried (g .position)
+gpsCarries g = positionRepresentable (g .position)
 
 text-fits : (g : GpsTime) → FitsLayout gpsLayout (gpsText g)
 unfolding
@@ -58,7 +58,7 @@ decides =
     record {
       year = λ s. (number 2 7 s, refl);
       offset = λ s r. offset-in-range s (r .offset);
-      carried = λ s r. position-carried s (r .position);
+      read-representable = λ s r. position-representable s (r .position);
       fits = λ g h k. text-fits g;
       flags = λ g h k. refl;
       offsets = λ g h k. offset-part g h .faultless;
@@ -69,7 +69,7 @@ decides =
 
 -- the writer's code does as its definition says
 pub writes : (g : GpsTime) (buffer : List ℕ) {u v : Bool} {bytes : List ℕ} {o : Outcome}
-    → o ≡ writing (u && v) bytes buffer → u ≡ isValid (g .time) → v ≡ positionCarried (g .position)
+    → o ≡ writing (u && v) bytes buffer → u ≡ isValid (g .time) → v ≡ positionRepresentable (g .position)
     → bytes ≡ gpsText g → o ≡ writeGps g buffer
 unfolding writeGps gps
 writes = text.writes gps gpsCarries decides sameGps-refl sameGps-true

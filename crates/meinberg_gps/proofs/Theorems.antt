@@ -13,7 +13,7 @@ use Rattle.calendar.specs.Rules.{ReadingRules}
 use Rattle.layout.specs.Picture.{AsDrawn}
 use Rattle.layout.proofs.DecideLaws.{valid-answer, read-written}
 use Rattle.layout.proofs.Theorems as text
-use Rattle.gps_position.specs.Position.{positionCarried}
+use Rattle.gps_position.specs.Position.{positionRepresentable}
 use Rattle.meinberg_gps.specs.Gps.{gpsText, gps, readGps, writeGps}
 use Rattle.meinberg_gps.specs.Accepts.{AcceptsGps}
 use Rattle.meinberg_gps.specs.Says.{gpsPicture, RulesGps, SaysGps}
@@ -54,8 +54,8 @@ unfolding readGps gps
 valid-read = valid-answer gps gpsCarries decides
 
 -- read exactly what is written: as g, the text of g and no other string, if g is a valid reading at a position that it
--- can say
+-- can represent
 pub read-is-written : (s : List ℕ) (g : GpsTime) → (readGps s ≡ accepted g)
-    ↔ (((isValid (g .time) && positionCarried (g .position)) ≡ true) × (gpsText g ≡ s))
+    ↔ (((isValid (g .time) && positionRepresentable (g .position)) ≡ true) × (gpsText g ≡ s))
 unfolding readGps gps
 read-is-written = read-written gps gpsCarries decides gps-back

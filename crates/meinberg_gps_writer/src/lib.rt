@@ -14,6 +14,7 @@ pub fn write_gps(g: GpsTime, out: &mut [u8]) -> WriteAnswer
     ensures { λ r. ⌜ outcome r (now (out .exit)) ≡ writeGps g (now (out .entry)) ⌝ }
 {
     let line = text::text_of(g);
-    let readable = calendar::unix_time::is_valid(g.time) & gps_position::is_carried(g.position);
-    clock_time::write_bytes(readable, &line, out)
+    let representable = calendar::unix_time::is_valid(g.time)
+        & gps_position::is_representable(g.position);
+    clock_time::write_bytes(representable, &line, out)
 }

@@ -16,7 +16,7 @@ use Rattle.layout.specs.Layout.{allowed, fitsFrom, FitsLayout, number, has}
 use Rattle.layout.proofs.LayoutLaws.{tested-fits}
 use Rattle.layout.proofs.DecideLaws.{letter-fits, letter-read, numbers-written, DecidesClock}
 use Rattle.layout.proofs.WriteLaws.{restore-fits, digits-number, digits-year, letter-back}
-use Rattle.meinberg_pzf.specs.Pzf.{pzfLayout, pzfOffset, pzfFields, pzfText, pzfCarries}
+use Rattle.meinberg_pzf.specs.Pzf.{pzfLayout, pzfOffset, pzfFields, pzfText, pzfRepresentable}
 
 -- the offset is 0 exactly if t says so, whatever x is
 offset-back : (utc summer : Bool) → eqℤ (pzfOffset utc summer) (pos 0) ≡ utc
@@ -35,21 +35,21 @@ text-fits : (t : ClockTime) → FitsLayout pzfLayout (pzfText t)
 unfolding pzfLayout pzfText ascii digits fitsFrom allowed
 text-fits t = tested-fits pzfLayout (pzfText t) refl (simp (digit-written, letter-fits))
 
-fields-carried : (s : List ℕ) → pzfCarries (pzfFields s) ≡ true
-unfolding pzfCarries pzfFields
-fields-carried s = simp (offset-back, eqℤ-refl)
+fields-representable : (s : List ℕ) → pzfRepresentable (pzfFields s) ≡ true
+unfolding pzfRepresentable pzfFields
+fields-representable s = simp (offset-back, eqℤ-refl)
 
-text-says : (t : ClockTime) → isValid t ≡ true → pzfCarries t ≡ true → pzfFields (pzfText t) ≡ t
-unfolding pzfCarries pzfFields pzfText ascii digits
+text-says : (t : ClockTime) → isValid t ≡ true → pzfRepresentable t ≡ true → pzfFields (pzfText t) ≡ t
+unfolding pzfRepresentable pzfFields pzfText ascii digits
 text-says t h k = simp (numbers-written, letter-read, eqℤ-true _ _ k)
 
-pub decides : DecidesClock pzfLayout (λ s. false) pzfFields pzfText pzfCarries
+pub decides : DecidesClock pzfLayout (λ s. false) pzfFields pzfText pzfRepresentable
 unfolding pzfFields pzfOffset
 decides =
     record {
       year = λ s. (number 2 7 s, refl);
       offset = λ s. zone-in-range (has "U" 24 s) (has "S" 27 s);
-      carried = fields-carried;
+      read-representable = fields-representable;
       fits = text-fits;
       faultless = λ t. refl;
       says = text-says;

@@ -15,7 +15,7 @@ use Rattle.calendar.specs.Rules.{ReadingRules}
 use Rattle.layout.specs.Picture.{AsDrawn}
 use Rattle.layout.proofs.DecideLaws.{clock-valid, clock-written}
 use Rattle.layout.proofs.Theorems as text
-use Rattle.meinberg_pzf.specs.Pzf.{pzfText, pzfCarries, pzf, readPzf, writePzf}
+use Rattle.meinberg_pzf.specs.Pzf.{pzfText, pzfRepresentable, pzf, readPzf, writePzf}
 use Rattle.meinberg_pzf.specs.Accepts.{AcceptsPzf}
 use Rattle.meinberg_pzf.specs.Says.{pzfPicture, SaysPzf}
 use Rattle.meinberg_pzf.specs.Lines.{pzfLines}
@@ -55,8 +55,8 @@ pub valid-read : (s : List ℕ) (t : ClockTime) → readPzf s ≡ accepted t →
 unfolding readPzf pzf
 valid-read = clock-valid decides
 
--- read exactly what is written: as t, the text of t and no other string, if t is a valid reading that it can say
+-- read exactly what is written: as t, the text of t and no other string, if t is a valid reading that it can represent
 pub read-is-written : (s : List ℕ) (t : ClockTime)
-    → (readPzf s ≡ accepted t) ↔ (((isValid t && pzfCarries t) ≡ true) × (pzfText t ≡ s))
+    → (readPzf s ≡ accepted t) ↔ (((isValid t && pzfRepresentable t) ≡ true) × (pzfText t ≡ s))
 unfolding readPzf pzf
 read-is-written = clock-written decides (λ s p. pzf-back s (p .clock .fits))

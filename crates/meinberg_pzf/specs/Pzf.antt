@@ -64,9 +64,9 @@ pzfText t =
     (letter (t .«summer_time») "S") (letter (t .«dst_change_announced») "!")
     (letter (t .«leap_second_announced») "A") (letter (t .«alternate_antenna») "R")
 
--- the clock times that these flags can say, the rest of a reading being as it is
-unfoldable pub pzfCarries : ClockTime → Bool
-pzfCarries t = eqℤ (pzfOffset (eqℤ (t .«utc_offset») (pos 0)) (t .«summer_time»)) (t .«utc_offset»)
+-- the clock times that these flags can represent, the rest of a reading being as it is
+unfoldable pub pzfRepresentable : ClockTime → Bool
+pzfRepresentable t = eqℤ (pzfOffset (eqℤ (t .«utc_offset») (pos 0)) (t .«summer_time»)) (t .«utc_offset»)
 
 -- it has no faults of its own beyond its layout's and its clock time's
 unfoldable pub pzf : Format ClockTime

@@ -3,7 +3,7 @@ use clock_time::ClockTime;
 use clock_time::WriteAnswer;
 ghost use mathlib.Core.Path.{_≡_};
 ghost use Rattle.clock_time.specs.Writing.{outcome};
-ghost use Rattle.meinberg_pzf.specs.Pzf.{lineWith, pzfText, pzfCarries, writePzf};
+ghost use Rattle.meinberg_pzf.specs.Pzf.{lineWith, pzfText, pzfRepresentable, writePzf};
 
 // The layout with the fields of `t` and the seven flag letters in it.
 fn line_with(t: ClockTime, utc: u8, u: u8, v: u8, x: u8, y: u8, z: u8, a: u8) -> [u8; 32]
@@ -68,9 +68,9 @@ pub fn text_of(t: ClockTime) -> PzfBytes
     line_with(t, utc, u, v, x, y, z, a)
 }
 
-// Whether the flags of a PZF string can say the zone of `t`.
-fn is_carried(t: ClockTime) -> bool
-    ensures { λ r. ⌜ r ≡ pzfCarries t ⌝ }
+// Whether the flags of a PZF string can represent the zone of `t`.
+fn is_representable(t: ClockTime) -> bool
+    ensures { λ r. ⌜ r ≡ pzfRepresentable t ⌝ }
 {
     let utc = clock_time::same_offset(t.utc_offset, 0);
     clock_time::same_offset(meinberg_pzf::offset_of(utc, t.summer_time), t.utc_offset)
@@ -82,6 +82,6 @@ pub fn write_pzf(t: ClockTime, out: &mut [u8]) -> WriteAnswer
     ensures { λ r. ⌜ outcome r (now (out .exit)) ≡ writePzf t (now (out .entry)) ⌝ }
 {
     let line = text_of(t);
-    let readable = calendar::unix_time::is_valid(t) & is_carried(t);
-    clock_time::write_bytes(readable, &line, out)
+    let representable = calendar::unix_time::is_valid(t) & is_representable(t);
+    clock_time::write_bytes(representable, &line, out)
 }

@@ -23,7 +23,7 @@ use Rattle.layout.proofs.LayoutLaws.{tested-fits}
 use Rattle.layout.proofs.DecideLaws.{letter-fits, letter-read, numbers-written, DecidesClock}
 use Rattle.layout.proofs.WriteLaws.{restore-fits, digits-number, digits-year, letter-back, either-all}
 use Rattle.meinberg_standard.specs.Standard.{standardLayout, standardZone, standardFields}
-use Rattle.meinberg_standard.specs.Standard.{zoneLetter, announcedLetter, standardText, standardCarries}
+use Rattle.meinberg_standard.specs.Standard.{zoneLetter, announcedLetter, standardText, standardRepresentable}
 
 zone-back : (b : ℕ) → (eqb b 32 || eqb b (code "U") || eqb b (code "S")) ≡ true
     → zoneLetter (standardZone b) (eqb b (code "S")) ≡ b
@@ -73,10 +73,10 @@ unfolding standardLayout standardText ascii digits fitsFrom allowed
 text-fits t =
     tested-fits standardLayout (standardText t) refl (simp (digit-written, letter-fits, zone-fits, announced-fits))
 
--- what is read is carried
-zone-carried : (x : ℕ) → eqℤ (standardZone (zoneLetter (standardZone x) (eqb x (code "S")))) (standardZone x) ≡ true
+-- what is read is representable
+zone-representable : (x : ℕ) → eqℤ (standardZone (zoneLetter (standardZone x) (eqb x (code "S")))) (standardZone x) ≡ true
 unfolding standardZone zoneLetter eqℤ
-zone-carried x = go (eqb x (code "U")) (eqb x (code "S")) refl refl
+zone-representable x = go (eqb x (code "U")) (eqb x (code "S")) refl refl
   where
     go : (u v : Bool) → eqb x (code "U") ≡ u → eqb x (code "S") ≡ v
         → eqℤ (standardZone (zoneLetter (cond u (pos 0) (cond v (pos 120) (pos 60))) v))
@@ -98,9 +98,9 @@ not-both x = go (eqb x (code "!")) (eqb x (code "A")) refl refl
     go true false e f = refl
     go false v e f = refl
 
-fields-carried : (s : List ℕ) → standardCarries (standardFields s) ≡ true
-unfolding standardCarries standardFields
-fields-carried s = simp (zone-carried, not-both)
+fields-representable : (s : List ℕ) → standardRepresentable (standardFields s) ≡ true
+unfolding standardRepresentable standardFields
+fields-representable s = simp (zone-representable, not-both)
 
 -- the letters are read as they were written
 summer-read : (z : ℤ) (summer : Bool) → eqb (zoneLetter z summer) (code "S") ≡ summer
@@ -125,8 +125,8 @@ leap-read true false h = refl
 leap-read false true h = refl
 leap-read false false h = refl
 
-text-says : (t : ClockTime) → isValid t ≡ true → standardCarries t ≡ true → standardFields (standardText t) ≡ t
-unfolding standardCarries standardFields standardText ascii digits sameTime sameFields
+text-says : (t : ClockTime) → isValid t ≡ true → standardRepresentable t ≡ true → standardFields (standardText t) ≡ t
+unfolding standardRepresentable standardFields standardText ascii digits sameTime sameFields
 text-says t h k =
     let zone = eqℤ (standardZone (zoneLetter (t .«utc_offset») (t .«summer_time»))) (t .«utc_offset») in
     let alone = not (t .«dst_change_announced» && t .«leap_second_announced») in
@@ -147,13 +147,13 @@ text-says t h k =
       eqℤ-refl,
     ))
 
-pub decides : DecidesClock standardLayout (λ s. false) standardFields standardText standardCarries
+pub decides : DecidesClock standardLayout (λ s. false) standardFields standardText standardRepresentable
 unfolding standardFields standardZone
 decides =
     record {
       year = λ s. (number 2 9 s, refl);
       offset = λ s. zone-in-range (eqb (getD s 29 0) (code "U")) (eqb (getD s 29 0) (code "S"));
-      carried = fields-carried;
+      read-representable = fields-representable;
       fits = text-fits;
       faultless = λ t. refl;
       says = text-says;

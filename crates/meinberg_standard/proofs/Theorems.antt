@@ -15,7 +15,7 @@ use Rattle.calendar.specs.Rules.{ReadingRules}
 use Rattle.layout.specs.Picture.{AsDrawn}
 use Rattle.layout.proofs.DecideLaws.{clock-valid, clock-written}
 use Rattle.layout.proofs.Theorems as text
-use Rattle.meinberg_standard.specs.Standard.{standardText, standardCarries, standard, readStandard, writeStandard}
+use Rattle.meinberg_standard.specs.Standard.{standardText, standardRepresentable, standard, readStandard, writeStandard}
 use Rattle.meinberg_standard.specs.Accepts.{AcceptsStandard}
 use Rattle.meinberg_standard.specs.Says.{standardPicture, SaysStandard}
 use Rattle.meinberg_standard.specs.Lines.{standardLines}
@@ -55,8 +55,8 @@ pub valid-read : (s : List ℕ) (t : ClockTime) → readStandard s ≡ accepted 
 unfolding readStandard standard
 valid-read = clock-valid decides
 
--- read exactly what is written: as t, the text of t and no other string, if t is a valid reading that it can say
+-- read exactly what is written: as t, the text of t and no other string, if t is a valid reading that it can represent
 pub read-is-written : (s : List ℕ) (t : ClockTime)
-    → (readStandard s ≡ accepted t) ↔ (((isValid t && standardCarries t) ≡ true) × (standardText t ≡ s))
+    → (readStandard s ≡ accepted t) ↔ (((isValid t && standardRepresentable t) ≡ true) × (standardText t ≡ s))
 unfolding readStandard standard
 read-is-written = clock-written decides (λ s p. standard-back s (p .clock .fits))

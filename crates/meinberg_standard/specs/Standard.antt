@@ -73,9 +73,9 @@ standardText t =
     (zoneLetter (t .«utc_offset») (t .«summer_time»))
     (announcedLetter (t .«dst_change_announced») (t .«leap_second_announced»))
 
--- the clock times that these letters can say, the rest of a reading being as it is
-unfoldable pub standardCarries : ClockTime → Bool
-standardCarries t =
+-- the clock times that these letters can represent, the rest of a reading being as it is
+unfoldable pub standardRepresentable : ClockTime → Bool
+standardRepresentable t =
     eqℤ (standardZone (zoneLetter (t .«utc_offset») (t .«summer_time»))) (t .«utc_offset»)
     && not (t .«dst_change_announced» && t .«leap_second_announced»)
     && not (t .«alternate_antenna»)

@@ -4,7 +4,7 @@ use clock_time::WriteAnswer;
 ghost use mathlib.Core.Path.{_≡_};
 ghost use Rattle.clock_time.specs.Writing.{outcome};
 ghost use Rattle.meinberg_standard.specs.Standard.{zoneLetter, announcedLetter, lineWith, standardText};
-ghost use Rattle.meinberg_standard.specs.Standard.{standardCarries, writeStandard};
+ghost use Rattle.meinberg_standard.specs.Standard.{standardRepresentable, writeStandard};
 
 fn zone_letter(offset: i16, summer: bool) -> u8
     ensures { λ r. ⌜ r ≡ zoneLetter offset summer ⌝ }
@@ -83,9 +83,9 @@ fn text_of(t: ClockTime) -> [u8; 32]
     line_with(t, u, v, x, y)
 }
 
-// Whether the letters of a standard string can say what `t` says.
-fn is_carried(t: ClockTime) -> bool
-    ensures { λ r. ⌜ r ≡ standardCarries t ⌝ }
+// Whether the letters of a standard string can represent `t`.
+fn is_representable(t: ClockTime) -> bool
+    ensures { λ r. ⌜ r ≡ standardRepresentable t ⌝ }
 {
     let zone = meinberg_standard::zone_offset(zone_letter(t.utc_offset, t.summer_time));
     clock_time::same_offset(zone, t.utc_offset)
@@ -99,6 +99,6 @@ pub fn write_standard(t: ClockTime, out: &mut [u8]) -> WriteAnswer
     ensures { λ r. ⌜ outcome r (now (out .exit)) ≡ writeStandard t (now (out .entry)) ⌝ }
 {
     let line = text_of(t);
-    let readable = calendar::unix_time::is_valid(t) & is_carried(t);
-    clock_time::write_bytes(readable, &line, out)
+    let representable = calendar::unix_time::is_valid(t) & is_representable(t);
+    clock_time::write_bytes(representable, &line, out)
 }

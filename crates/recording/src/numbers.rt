@@ -32,7 +32,7 @@ fn number_at_gap(marks: &[u8], place: usize, last: Gap) -> u32
 }
 
 // The number at a place, from the nearest gap before it.
-pub(crate) fn number_after(marks: &[u8], place: usize, last: Gap) -> u32
+pub(crate) fn number_given_gap(marks: &[u8], place: usize, last: Gap) -> u32
     requires { ⌜ (place < length (now marks)) × (gapOf last ≡ gapBefore (now marks) place) ⌝ }
     ensures { λ r. ⌜ r ≡ rule (now (marks .entry)) place ⌝ }
 {
@@ -50,7 +50,7 @@ pub(crate) fn number_at(marks: &[u8], place: usize) -> u32
     if marks[place] != 2 {
         return 0;
     }
-    number_after(marks, place, gaps::gap_before(marks, place))
+    number_given_gap(marks, place, gaps::gap_before(marks, place))
 }
 
 // Puts every place's number into outcomes, in one pass: the last gap seen is kept, and not looked for again.

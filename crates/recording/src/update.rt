@@ -21,7 +21,7 @@ fn renew(marks: &[u8], outcomes: &mut [u32], place: usize, last: Gap) -> usize
         ⌝ }
     ensures count { λ r. ⌜ r ≡ differ (getD (now (outcomes .entry)) place 0) (rule (now (marks .entry)) place) ⌝ }
 {
-    let new = numbers::number_after(marks, place, last);
+    let new = numbers::number_given_gap(marks, place, last);
     let old = outcomes[place];
     outcomes[place] = new;
     if old == new { 0 } else { 1 }

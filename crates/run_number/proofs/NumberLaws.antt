@@ -79,7 +79,7 @@ accepted-number : (m : List ℕ) (a : MinuteTime) → readMinute m ≡ accepted 
     → MinuteNumber a (outcomeNumber (accepted a))
 accepted-number m a h =
     let date = known _ _ _ (accepted-known m a h) in
-    outcome-number a (read-minute-exactly m a .0 h .2 .date) (date .first)
+    outcome-number a (read-minute-exactly m a .0 h .2 .date) (date .year-least)
 
 in-words : (m : List ℕ) → RunNumber m (runNumber m)
 unfolding runNumber

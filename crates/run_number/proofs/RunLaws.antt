@@ -6,8 +6,8 @@ use mathlib.Core.List.{List}
 use lib.IntN.{pos}
 use Rattle.clock_time.specs.Errors.{accepted}
 use Rattle.clock_time.specs.Same.{eqℤ}
-use Rattle.gregorian.specs.Date.{knownDate}
-use Rattle.gregorian.proofs.DateLaws.{known-exists}
+use Rattle.gregorian.specs.Date.{supportedDate}
+use Rattle.gregorian.proofs.DateLaws.{supported-exists}
 use Rattle.gregorian.proofs.RulesLaws.{date-exactly}
 use Rattle.dcf77.specs.Marks.{long, twoDigits}
 use Rattle.dcf77.specs.Minute.{announced, minuteFields, readMinute}
@@ -15,11 +15,11 @@ use Rattle.dcf77.specs.declared.MinuteTime.{MinuteTime}
 use Rattle.dcf77.proofs.AcceptLaws.{read-keeps}
 
 pub accepted-known : (m : List ℕ) (a : MinuteTime) → readMinute m ≡ accepted a
-    → knownDate (a .time .year) (a .time .month) (a .time .day) ≡ true
+    → supportedDate (a .time .year) (a .time .month) (a .time .day) ≡ true
 unfolding minuteFields announced
 accepted-known m a h =
     let w = read-keeps m a h in
-    rw (w .1) (known-exists (twoDigits 50 4 m) _ _ ∙ date-exactly _ _ _ .1 (w .0 .1 .date))
+    rw (w .1) (supported-exists (twoDigits 50 4 m) _ _ ∙ date-exactly _ _ _ .1 (w .0 .1 .date))
 
 zone-summer : (summer : Bool) → eqℤ (cond summer (pos 120) (pos 60)) (pos 120) ≡ summer
 unfolding eqℤ

@@ -8,7 +8,7 @@ use Rattle.calendar.proofs.date.days_less_years.Statement.{statement}
 use Rattle.calendar.proofs.date.days_less_years.Tie as tie
 
 sub-years : tie.Need-sub-years
-sub-years c = known _ _ _ (c .pre) .first
+sub-years c = known _ _ _ (c .pre) .year-least
 
 march : (c : tie.Start) → 3 * boolByte (ltb 2 (c .args .month)) ≤ c .args .month
 march c = from-march (c .args .month)

@@ -5,7 +5,7 @@ use Rattle.calendar.proofs.date.days_since_epoch.Statement.{statement}
 use Rattle.calendar.proofs.date.days_since_epoch.Tie as tie
 
 sub-result : tie.Need-sub-result
-sub-result c = known _ _ _ (c .pre) .first
+sub-result c = known _ _ _ (c .pre) .year-least
 
 add-result : tie.Need-add-result
 add-result c = omega (arith, c .days-less-years .ensures, days-small _ _ _ (c .before .pre))

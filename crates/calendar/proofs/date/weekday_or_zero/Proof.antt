@@ -3,26 +3,26 @@ use native.Mathlib.Omega.{arith}
 use Prim.Native.Nat.{_+_, _-_, _<_}
 use mathlib.Core.Path.{_≡_, sym, _∙_}
 use mathlib.Core.Bool.{true}
-use Rattle.gregorian.specs.Date.{knownDate, weekdayOrZero}
+use Rattle.gregorian.specs.Date.{supportedDate, weekdayOrZero}
 use Rattle.gregorian.proofs.DateLaws.{known, rest-small, weekday-sum}
 use Rattle.calendar.proofs.date.weekday_or_zero.Statement.{statement}
 use Rattle.calendar.proofs.date.weekday_or_zero.Tie as tie
 
 dated : (c : tie.Then1)
-    → knownDate (c .before .before .args .year) (c .before .before .args .month) (c .before .before .args .day) ≡ true
-dated c = sym (c .before .is-known-date .ensures) ∙ c .if1 .taken
+    → supportedDate (c .before .before .args .year) (c .before .before .args .month) (c .before .before .args .day) ≡ true
+dated c = sym (c .before .is-supported-date .ensures) ∙ c .if1 .taken
 
 sub-days : tie.Need-sub-days
-sub-days c = known _ _ _ (dated c) .first
+sub-days c = known _ _ _ (dated c) .year-least
 
 add-days : tie.Need-add-days
-add-days c = omega (arith, known _ _ _ (dated c) .last)
+add-days c = omega (arith, known _ _ _ (dated c) .year-most)
 
 small : (c : tie.After-days-less-years)
     → 3 + (c .before .before .before .args .year - 1970) + c .days-less-years .result < 600
 small c =
     let y = known _ _ _ (dated (c .before)) in
-    omega (arith, y .last, rest-small _ _ _ _ (dated (c .before)) (c .days-less-years .ensures))
+    omega (arith, y .year-most, rest-small _ _ _ _ (dated (c .before)) (c .days-less-years .ensures))
 
 returns : tie.Need-returns
 returns c =
@@ -31,7 +31,7 @@ returns c =
 
 returns-2 : tie.Need-returns-2
 unfolding weekdayOrZero
-returns-2 c = simp (← (c .before .is-known-date .ensures), c .if1 .left)
+returns-2 c = simp (← (c .before .is-supported-date .ensures), c .if1 .left)
 
 pub weekday-or-zero-spec : {M : Type 1} → statement M
 weekday-or-zero-spec =

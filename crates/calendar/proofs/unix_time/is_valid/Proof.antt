@@ -19,7 +19,7 @@ returns c =
     let date = offset .before .before .before .before in
     let f = offset-fits (date .before .before) in
     let rest-holds = rw (offset .offset-in-range .ensures, toZ-ofZ f, and-assoc) at (rest .if2 .taken) in
-    let known = sym (date .before .is-known-date .ensures) ∙ date .if1 .taken in
+    let known = sym (date .before .is-supported-date .ensures) ∙ date .if1 .taken in
     simp (c .time-exists .ensures, toZ-ofZ f, and-assoc, known, rest-holds, and-true)
 
 returns-2 : tie.Need-returns-2
@@ -33,7 +33,7 @@ returns-2 c =
 
 returns-3 : tie.Need-returns-3
 unfolding isValid
-returns-3 c = let known = sym (c .before .is-known-date .ensures) ∙ c .if1 .left in simp known
+returns-3 c = let known = sym (c .before .is-supported-date .ensures) ∙ c .if1 .left in simp known
 
 pub is-valid-spec : {M : Type 1} → statement M
 is-valid-spec =

@@ -14,7 +14,7 @@ returns c =
     let date = spells-join (h .spell-hour .ensures) (h .before .before .spell-date .ensures) in
     let groups = spells-join (h .before .spell-minute .ensures) date in
     spells-short
-    (spells-join (spells-last 14 (s .args .a .detail .marks)) (spells-join (f .spell-flags .ensures) groups))
+    (spells-join (spells-last 14 (s .args .a .detail .«first_marks»)) (spells-join (f .spell-flags .ensures) groups))
 
 pub spell-run-spec : {M : Type 1} → statement M
 spell-run-spec =

@@ -9,5 +9,5 @@ unfolding differ
 renew-spec =
     tie.close
     (tie.spec (λ c κs. search needs) (λ c. search needs) (λ c. search needs) (λ c. search needs) (λ c. search needs)
-    (λ c. search needs) (λ c. search (tests, ← (c .before .before .number-after .ensures))) (λ c. search needs)
-    (λ c. search (tests, ← (c .before .before .number-after .ensures))))
+    (λ c. search needs) (λ c. search (tests, ← (c .before .before .number-given-gap .ensures))) (λ c. search needs)
+    (λ c. search (tests, ← (c .before .before .number-given-gap .ensures))))

@@ -1,8 +1,8 @@
 use borrow.Author.Needs.{needs}
 use mathlib.Core.Path.{sym, _∙_}
 use Rattle.recording.proofs.RuleLaws.{rule-none, rule-gap}
-use Rattle.recording.proofs.numbers.number_after.Statement.{statement}
-use Rattle.recording.proofs.numbers.number_after.Tie as tie
+use Rattle.recording.proofs.numbers.number_given_gap.Statement.{statement}
+use Rattle.recording.proofs.numbers.number_given_gap.Tie as tie
 
 returns : tie.Need-returns
 returns c = sym (rule-none _ _ _ (c .if1 .taken))
@@ -12,5 +12,5 @@ returns-2 c =
     c .number-at-gap .ensures
     ∙ sym (rule-gap _ _ _ _ (c .before .if1 .left) (sym (c .before .before .before .before .pre .1)))
 
-pub number-after-spec : {M : Type 1} → statement M
-number-after-spec = tie.close (tie.spec (λ c. search needs) returns (λ c κs. search needs) returns-2)
+pub number-given-gap-spec : {M : Type 1} → statement M
+number-given-gap-spec = tie.close (tie.spec (λ c. search needs) returns (λ c κs. search needs) returns-2)

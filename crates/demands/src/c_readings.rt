@@ -70,7 +70,8 @@ fn radio_clock_read_minute(marks: &[u8], fields: &mut [i32]) -> u8
 fn radio_clock_write_minute(fields: &[i32], out: &mut [u8], written: &mut usize) -> u8
     ensures demand_1 { λ r. ⌜
         CallRefusesAndKeeps {M = List ℕ × ℕ}
-        (writerLines (λ m. AcceptsMinuteNumbers m (now (fields .entry))) (now (out .entry))) (23 ∷ 20 ∷ []) (now (out .entry), now (written .entry)) (called r (now (out .exit), now (written .exit)))
+        (writerLines (λ m. AcceptsMinuteNumbers m (now (fields .entry))) (now (out .entry))) (23 ∷ 20 ∷ [])
+        (now (out .entry), now (written .entry)) (called r (now (out .exit), now (written .exit)))
         ⌝ }
     ensures demand_2 { λ r. ⌜
         CallWritesExactly (λ m. AcceptsMinuteNumbers m (now (fields .entry))) (now (out .entry))

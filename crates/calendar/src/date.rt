@@ -31,7 +31,7 @@ pub(crate) fn days_since_epoch(year: u16, month: u8, day: u8) -> u32
     365 * ((year - 1970) as u32) + days_less_years(year, month, day)
 }
 
-// Days from 1 January 1970 to a date of the years 1970 to 2069, else 5.
+// The days from 1 January 1970 to a date. Refuses with NoSuchDate (5) if the date is not one of 1970 to 2069.
 pub fn day_number(year: u16, month: u8, day: u8) -> DateAnswer
     ensures { λ r. ⌜ dateAnswer r ≡ dayNumber year month day ⌝ }
 {
@@ -49,7 +49,7 @@ fn weeks(days: u32) -> u32
     days * 293 / 2048
 }
 
-// The weekday, 1 Monday to 7 Sunday, of a date of the years 1970 to 2069, else 0. Each 365 days move it on by one.
+// The weekday, 1 Monday to 7 Sunday; 0 if the date is not one of 1970 to 2069. Each 365 days move it on by one.
 pub fn weekday_or_zero(year: u16, month: u8, day: u8) -> u8
     ensures { λ r. ⌜ r ≡ weekdayOrZero year month day ⌝ }
 {
@@ -60,7 +60,7 @@ pub fn weekday_or_zero(year: u16, month: u8, day: u8) -> u8
     0
 }
 
-// The weekday, 1 Monday to 7 Sunday, of a date of the years 1970 to 2069, else 5.
+// The weekday, 1 Monday to 7 Sunday. Refuses with NoSuchDate (5) if the date is not one of 1970 to 2069.
 pub fn weekday_of(year: u16, month: u8, day: u8) -> DateAnswer
     ensures { λ r. ⌜ dateAnswer r ≡ weekdayOf year month day ⌝ }
 {

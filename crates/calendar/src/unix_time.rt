@@ -51,7 +51,8 @@ fn instant_of(t: ClockTime) -> i64
     to_utc(86400 * (days as u64) + time, t.utc_offset)
 }
 
-// The Unix time of a clock time, or 23 where its fields are none; the flags play no part.
+// The Unix time of a clock time; its flags play no part. Refuses with Unrepresentable (23) if its other fields are
+// those of no valid reading.
 pub fn unix_time(t: ClockTime) -> UnixTime
     ensures { λ r. ⌜ unixTimeAnswer r ≡ unixTime t ⌝ }
 {

@@ -145,7 +145,7 @@ fn is_time(z: &[i32]) -> bool
     are_within(&GPS_LEAST[..14], &GPS_MOST[..14], z)
 }
 
-// The clock time that the first 14 numbers are, or 23.
+// The clock time that the first 14 numbers are. Refuses with Unrepresentable (23) if they are none.
 pub fn first_time_of(z: &[i32]) -> ReadAnswer
     ensures { λ r. ⌜ readAnswer r ≡ firstTimeOf (now (z .entry)) ⌝ }
 {
@@ -155,7 +155,7 @@ pub fn first_time_of(z: &[i32]) -> ReadAnswer
     ReadAnswer::Refused(Error::Unrepresentable)
 }
 
-// The clock time that 14 numbers are, or 23.
+// The clock time that 14 numbers are. Refuses with Unrepresentable (23) if they are none.
 pub fn time_of(z: &[i32]) -> ReadAnswer
     ensures { λ r. ⌜ readAnswer r ≡ timeOf (now (z .entry)) ⌝ }
 {
@@ -165,7 +165,7 @@ pub fn time_of(z: &[i32]) -> ReadAnswer
     ReadAnswer::Refused(Error::Unrepresentable)
 }
 
-// The clock time and position that 17 numbers are, or 23.
+// The clock time and position that 17 numbers are. Refuses with Unrepresentable (23) if they are none.
 pub fn gps_of(z: &[i32]) -> GpsAnswer
     ensures { λ r. ⌜ gpsAnswer r ≡ gpsOf (now (z .entry)) ⌝ }
 {
@@ -175,7 +175,7 @@ pub fn gps_of(z: &[i32]) -> GpsAnswer
     GpsAnswer::Refused(Error::Unrepresentable)
 }
 
-// The minute that 16 numbers are, or 23.
+// The minute that 16 numbers are. Refuses with Unrepresentable (23) if they are none.
 pub fn minute_of(z: &[i32]) -> MinuteAnswer
     ensures { λ r. ⌜ minuteAnswer r ≡ minuteOf (now (z .entry)) ⌝ }
 {

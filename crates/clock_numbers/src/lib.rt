@@ -73,7 +73,7 @@ fn copy_to_front(numbers: &[i32], fields: &mut [i32])
     }
 }
 
-// Puts numbers in front of those lent; 20 where there is no room.
+// Puts numbers in front of those lent. Refuses with LentMemory (20) if there is no room.
 fn put_numbers(numbers: &[i32], fields: &mut [i32]) -> u8
     ensures { λ r. ⌜ called r (now (fields .exit)) ≡ left (putNumbers (now (numbers .entry)) (now (fields .entry))) ⌝ }
 {
@@ -119,8 +119,8 @@ fn put_detail(a: MinuteTime, fields: &mut [i32]) -> u8
     )
 }
 
-// Puts the 14 numbers of a clock time that was read in front of those lent: the reader's error, then 20 where there is
-// no room.
+// Puts the 14 numbers of a clock time that was read in front of those lent. Refuses as the reader did, then with
+// LentMemory (20) if there is no room.
 pub fn put_time(answer: ReadAnswer, fields: &mut [i32]) -> u8
     ensures { λ r. ⌜
         called r (now (fields .exit)) ≡ left (putAnswer timeNumbers (readAnswer answer) (now (fields .entry)))

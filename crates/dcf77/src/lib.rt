@@ -20,7 +20,9 @@ pub enum MinuteAnswer {
     Refused(Error),
 }
 
-// Reads a run of marks: the minute, or the first of 11 to 18, 7, 5, 6 and 19 that holds.
+// Reads a run of marks. Refuses with the first that holds of RunLength (11), UnsureMark (12), StartMark (13), ZoneMarks
+// (14), MinuteParity (15), HourParity (16), DateParity (17), DecimalDigit (18), Weekday (7), NoSuchDate (5), NoSuchTime
+// (6) and LeapMinute (19).
 pub fn read_minute(m: &[u8]) -> MinuteAnswer
     ensures { λ r. ⌜ minuteAnswer r ≡ readMinute (now (m .entry)) ⌝ }
 {

@@ -93,7 +93,7 @@ fn digits_fit(minute: u32, hour: u32, date: u32) -> bool
         & (date / 262144 % 16 <= 9)
 }
 
-// The first of 15 to 18 that the numbers give, else 0.
+// The first that holds of MinuteParity (15), HourParity (16), DateParity (17) and DecimalDigit (18); 0 if none does.
 fn number_error(minute: u32, hour: u32, date: u32) -> u8
     ensures { λ r. ⌜ r ≡ firstNumber (numberChecks minute hour date) ⌝ }
 {
@@ -112,7 +112,7 @@ fn number_error(minute: u32, hour: u32, date: u32) -> u8
     0
 }
 
-// The first of 13 to 18 that the marks give, else 0.
+// The first that holds of StartMark (13), ZoneMarks (14) and those of the numbers, 15 to 18; 0 if none does.
 pub(crate) fn marks_error(m: &[u8], minute: u32, hour: u32, date: u32) -> u8
     requires { ⌜ Sure (now m) ⌝ }
     ensures { λ r. ⌜ r ≡ firstNumber (startChecks (now (m .entry)) ++ numberChecks minute hour date) ⌝ }
@@ -126,7 +126,7 @@ pub(crate) fn marks_error(m: &[u8], minute: u32, hour: u32, date: u32) -> u8
     number_error(minute, hour, date)
 }
 
-// The first of 7 and 5 that a date gives, else 0.
+// The first that holds of Weekday (7) and NoSuchDate (5); 0 if none does.
 pub(crate) fn date_error(weekday: u8, year: u16, month: u8, day: u8) -> u8
     ensures { λ r. ⌜ r ≡ firstNumber (dateChecks weekday year month day) ⌝ }
 {
@@ -139,7 +139,7 @@ pub(crate) fn date_error(weekday: u8, year: u16, month: u8, day: u8) -> u8
     0
 }
 
-// The first of 6 and 19 that a time of day gives, at second 0, else 0.
+// The first that holds, at second 0, of NoSuchTime (6) and LeapMinute (19); 0 if none does.
 pub(crate) fn time_error(m: &[u8], hour: u8, minute: u8) -> u8
     requires { ⌜ Sure (now m) ⌝ }
     ensures { λ r. ⌜ r ≡ firstNumber (timeChecks (now (m .entry)) hour minute) ⌝ }
@@ -153,7 +153,7 @@ pub(crate) fn time_error(m: &[u8], hour: u8, minute: u8) -> u8
     0
 }
 
-// The error of a number from 5 to 19.
+// The error that has a number from NoSuchDate (5) to LeapMinute (19).
 pub(crate) fn error_of(number: u8) -> Error
     requires { ⌜ (5 ≤ number) × (number ≤ 19) ⌝ }
     ensures { λ r. ⌜ errorNumber r ≡ number ⌝ }

@@ -7,7 +7,8 @@ ghost use Rattle.dcf77.specs.Minute.{writeMinute};
 
 mod writing;
 
-// Writes a minute as a run of marks to the front of `out`: 23 where no run is read as it, 20 where there is no room.
+// Writes a minute as a run of marks to the front of `out`. Refuses with Unrepresentable (23) if no run is read as it,
+// then with LentMemory (20) if there is no room.
 pub fn write_minute(a: MinuteTime, out: &mut [u8]) -> WriteAnswer
     ensures { λ r. ⌜ outcome r (now (out .exit)) ≡ writeMinute a (now (out .entry)) ⌝ }
 {

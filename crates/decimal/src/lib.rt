@@ -70,8 +70,8 @@ fn fill_digits(number: u64, count: usize, out: &mut [u8])
     }
 }
 
-// Writes `number` as `count` digits to the front of `out`; 23 where it has more digits or `count` is above 19, 20 where
-// there is no room.
+// Writes `number` as `count` digits to the front of `out`. Refuses with Unrepresentable (23) if it has more digits or
+// `count` is above 19, then with LentMemory (20) if there is no room.
 pub fn write_digits(number: u64, count: usize, out: &mut [u8]) -> WriteAnswer
     ensures { λ r. ⌜ outcome r (now (out .exit)) ≡ writeDigits number count (now (out .entry)) ⌝ }
 {

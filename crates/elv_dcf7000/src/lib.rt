@@ -132,7 +132,8 @@ fn read_fitting(s: &[u8]) -> ReadAnswer
     }
 }
 
-// Reads an ELV DCF7000 string: the clock time, or the first of 1, 2, 3, 4, 5 and 6 that holds.
+// Reads an ELV DCF7000 string. Refuses with the first that holds of Length (1), FixedByte (2), NotDigit (3), FlagLetter
+// (4), NoSuchDate (5) and NoSuchTime (6).
 pub fn read_elv(s: &[u8]) -> ReadAnswer
     ensures { λ r. ⌜ readAnswer r ≡ readElv (now (s .entry)) ⌝ }
 {

@@ -63,8 +63,8 @@ fn is_representable(t: ClockTime) -> bool
     zone & (weekday == t.weekday) & !t.unverified & !t.leap_second_announced & !t.alternate_antenna
 }
 
-// Writes a clock time as an ELV DCF7000 string to the front of `out`: 23 where no such string is read as it, 20 where
-// there is no room for 21 bytes.
+// Writes a clock time as an ELV DCF7000 string to the front of `out`. Refuses with Unrepresentable (23) if no such
+// string is read as it, then with LentMemory (20) if there is no room for 21 bytes.
 pub fn write_elv(t: ClockTime, out: &mut [u8]) -> WriteAnswer
     ensures { λ r. ⌜ outcome r (now (out .exit)) ≡ writeElv t (now (out .entry)) ⌝ }
 {

@@ -66,8 +66,8 @@ fn store(framer: Framer, state: &mut [u8])
     state[67] = mode_number(mode);
 }
 
-// Takes bytes of s up to its end, to `limit` bytes, or to just after the first string, and leaves the state, how many
-// it took and what the last of them ended: 20 where the state has fewer than 68 bytes.
+// Takes bytes of `s` up to its end, to `limit` bytes, or to just after the first string, and leaves the state, how many
+// it took and what the last of them ended. Refuses with LentMemory (20) if the state has fewer than 68 bytes.
 pub fn feed(state: &mut [u8], s: &[u8], limit: usize, taken: &mut usize, event: &mut u8) -> u8
     ensures { λ r. ⌜
         called r (feedMemory (now (state .exit)) (now (taken .exit)) (now (event .exit)))

@@ -41,8 +41,9 @@ fn write_gps(fields: &[i32], out: &mut [u8]) -> WriteAnswer
     }
 }
 
-// Writes numbers as a string of the kind that a number names to the front of `out`: 1 for no such kind, 23 where no
-// such string is read as the numbers, 20 where there is no room.
+// Writes numbers as a string of the kind that a number names to the front of `out`. Refuses with Length (1) if it names
+// none, with Unrepresentable (23) if no such string is read as the numbers, then with LentMemory (20) if there is no
+// room.
 pub fn write_string(kind: u8, fields: &[i32], out: &mut [u8]) -> WriteAnswer
     ensures { λ r. ⌜ outcome r (now (out .exit)) ≡ writeFrom kind (now (fields .entry)) (now (out .entry)) ⌝ }
 {
@@ -55,8 +56,8 @@ pub fn write_string(kind: u8, fields: &[i32], out: &mut [u8]) -> WriteAnswer
     write_plain(kind, fields, out)
 }
 
-// Writes numbers as a run of marks to the front of `out`: 23 where no run is read as the numbers, 20 where there is no
-// room.
+// Writes numbers as a run of marks to the front of `out`. Refuses with Unrepresentable (23) if no run is read as the
+// numbers, then with LentMemory (20) if there is no room.
 pub fn write_marks(fields: &[i32], out: &mut [u8]) -> WriteAnswer
     ensures { λ r. ⌜ outcome r (now (out .exit)) ≡ writeMinuteFrom (now (fields .entry)) (now (out .entry)) ⌝ }
 {

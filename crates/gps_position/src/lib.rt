@@ -54,7 +54,7 @@ fn height(s: &[u8]) -> u16
     digits::four(s[60], s[61], s[62], s[63]) as u16
 }
 
-// The position of two letters, two sizes and a height, or 9.
+// The position of two letters, two sizes and a height. Refuses with Position (9) if a letter or a size is none.
 fn position_from(north: u8, lat: u32, east: u8, lon: u32, height: u16) -> PositionAnswer
     ensures { λ r. ⌜ positionAnswer r ≡ positionFrom north lat east lon height ⌝ }
 {
@@ -70,7 +70,7 @@ fn position_from(north: u8, lat: u32, east: u8, lon: u32, height: u16) -> Positi
     PositionAnswer::Refused(Error::Position)
 }
 
-// The position of a string whose digits and blanks stand where they must, or 9.
+// The position of a string whose digits and blanks stand where they must. Refuses with Position (9) if it is none.
 fn read_digits(s: &[u8]) -> PositionAnswer
     requires { ⌜ (64 ≤ length (now s)) × (positionDigits (now s) ≡ true) ⌝ }
     ensures { λ r. ⌜ positionAnswer r ≡ readPosition (now (s .entry)) ⌝ }
@@ -80,7 +80,7 @@ fn read_digits(s: &[u8]) -> PositionAnswer
     position_from(s[48], latitude, s[58], longitude, height(s))
 }
 
-// Reads the position of a GPS string, or gives 9; the string's other places play no part.
+// Reads the position of a GPS string; the string's other places play no part. Refuses with Position (9) if it is none.
 pub fn read_position(s: &[u8]) -> PositionAnswer
     ensures { λ r. ⌜ positionAnswer r ≡ readPosition (now (s .entry)) ⌝ }
 {

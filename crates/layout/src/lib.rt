@@ -73,7 +73,8 @@ fn first_offence(k: u8, layout: &[u32], s: &[u8]) -> usize
     i
 }
 
-// The error of a string that does not fit its layout: 1, 2, 3 or 4, the first that holds.
+// The error of a string that does not fit its layout: the first that holds of Length (1), FixedByte (2), NotDigit (3)
+// and FlagLetter (4).
 pub fn layout_error(layout: &[u32], s: &[u8]) -> Error
     ensures { λ r. ⌜ errorNumber r ≡ layoutError (now (layout .entry)) (now (s .entry)) ⌝ }
 {
@@ -89,7 +90,8 @@ pub fn layout_error(layout: &[u32], s: &[u8]) -> Error
     Error::FlagLetter
 }
 
-// The clock time, or the first of 5, 6 and 7 that holds of it; `mismatch` is a further reason for 6.
+// The clock time. Refuses with the first that holds of NoSuchDate (5), NoSuchTime (6) and Weekday (7); `mismatch` is a
+// further reason for NoSuchTime.
 pub fn check_clock(t: ClockTime, mismatch: bool) -> ReadAnswer
     ensures { λ r. ⌜ readAnswer r ≡ checked (clockChecks t mismatch) t ⌝ }
 {

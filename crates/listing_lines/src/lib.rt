@@ -16,8 +16,8 @@ pub struct Totals {
     pub dropped: u64,
 }
 
-// Writes the line of a clock time, its line feed included, to the front of `out`: 23 where its fields are no valid
-// reading, 20 where there is no room for 35 bytes.
+// Writes the line of a clock time, its line feed included, to the front of `out`. Refuses with Unrepresentable (23) if
+// its fields are no valid reading, then with LentMemory (20) if there is no room for 35 bytes.
 pub fn write_line(t: ClockTime, out: &mut [u8]) -> WriteAnswer
     ensures { λ r. ⌜ outcome r (now (out .exit)) ≡ writeLine t (now (out .entry)) ⌝ }
 {
@@ -25,7 +25,8 @@ pub fn write_line(t: ClockTime, out: &mut [u8]) -> WriteAnswer
     clock_time::write_bytes(calendar::unix_time::is_valid(t), &text, out)
 }
 
-// Writes the line of the totals, its line feed included, to the front of `out`: 20 where there is no room for it.
+// Writes the line of the totals, its line feed included, to the front of `out`. Refuses with LentMemory (20) if there
+// is no room.
 pub fn write_totals(t: Totals, out: &mut [u8]) -> WriteAnswer
     ensures { λ r. ⌜ outcome r (now (out .exit)) ≡ writeTotals t (now (out .entry)) ⌝ }
 {

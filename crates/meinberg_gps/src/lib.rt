@@ -58,7 +58,8 @@ fn mismatch(s: &[u8]) -> bool
     (s[38] == b'L') != (time.third == 60)
 }
 
-// Reads the clock time of a string whose offset and `position` hold, or the first of 5, 6 and 7 that holds.
+// Reads the clock time of a string whose offset and `position` hold. Refuses with the first that holds of NoSuchDate
+// (5), NoSuchTime (6) and Weekday (7).
 fn read_clock(s: &[u8], position: Position) -> GpsAnswer
     requires { ⌜ (length (now s) ≡ 66) × FitsLayout gpsLayout (now s) ⌝ }
     ensures { λ r. ⌜ gpsAnswer r ≡ readClock (now (s .entry)) position ⌝ }
@@ -86,8 +87,9 @@ fn read_fitting(s: &[u8]) -> GpsAnswer
     }
 }
 
-// Reads a Meinberg GPS string: the clock time and the position, or the first of 1, 2, 3, 4, 8, 9, 5, 6 and 7
-// that holds.
+// Reads a Meinberg GPS string: the clock time and the position. Refuses with the first that holds of Length (1),
+// FixedByte (2), NotDigit (3), FlagLetter (4), UtcOffset (8), Position (9), NoSuchDate (5), NoSuchTime (6) and Weekday
+// (7).
 pub fn read_gps(s: &[u8]) -> GpsAnswer
     ensures { λ r. ⌜ gpsAnswer r ≡ readGps (now (s .entry)) ⌝ }
 {

@@ -8,8 +8,8 @@ ghost use Rattle.meinberg_gps.specs.Gps.{writeGps};
 pub mod parts;
 mod text;
 
-// Writes a clock time and a position as a Meinberg GPS string to the front of `out`: 23 where no such string is read as
-// them, 20 where there is no room for 66 bytes.
+// Writes a clock time and a position as a Meinberg GPS string to the front of `out`. Refuses with Unrepresentable (23)
+// if no such string is read as them, then with LentMemory (20) if there is no room for 66 bytes.
 pub fn write_gps(g: GpsTime, out: &mut [u8]) -> WriteAnswer
     ensures { λ r. ⌜ outcome r (now (out .exit)) ≡ writeGps g (now (out .entry)) ⌝ }
 {

@@ -120,7 +120,8 @@ fn fields(s: &[u8]) -> ClockTime
     }
 }
 
-// Reads a Meinberg standard string: the clock time, or the first of 1, 2, 3, 4, 5, 6 and 7 that holds.
+// Reads a Meinberg standard string. Refuses with the first that holds of Length (1), FixedByte (2), NotDigit (3),
+// FlagLetter (4), NoSuchDate (5), NoSuchTime (6) and Weekday (7).
 pub fn read_standard(s: &[u8]) -> ReadAnswer
     ensures { λ r. ⌜ readAnswer r ≡ readStandard (now (s .entry)) ⌝ }
 {

@@ -93,8 +93,8 @@ fn is_representable(t: ClockTime) -> bool
         & !t.alternate_antenna
 }
 
-// Writes a clock time as a Meinberg standard string to the front of `out`: 23 where no such string is read as it, 20
-// where there is no room for 32 bytes.
+// Writes a clock time as a Meinberg standard string to the front of `out`. Refuses with Unrepresentable (23) if no such
+// string is read as it, then with LentMemory (20) if there is no room for 32 bytes.
 pub fn write_standard(t: ClockTime, out: &mut [u8]) -> WriteAnswer
     ensures { λ r. ⌜ outcome r (now (out .exit)) ≡ writeStandard t (now (out .entry)) ⌝ }
 {

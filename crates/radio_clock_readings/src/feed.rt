@@ -3,8 +3,8 @@ ghost use mathlib.Core.Path.{_≡_};
 ghost use Rattle.clock_time.specs.Called.{called, left};
 ghost use Rattle.feed_state.specs.Feed.{feedMemory, feedInto};
 
-// Takes bytes of s up to its end, to `limit` bytes, or to just after the first string, and leaves the state, how many
-// it took and what the last of them ended: 20 where the state has fewer than 68 bytes.
+// Takes bytes of `s` up to its end, to `limit` bytes, or to just after the first string, and leaves the state, how many
+// it took and what the last of them ended. Refuses with LentMemory (20) if the state has fewer than 68 bytes.
 #[no_mangle]
 pub extern "C" fn radio_clock_feed(
     state: &mut [u8],

@@ -18,7 +18,8 @@ fn put_instant(answer: UnixTime, time: &mut i64) -> u8
     }
 }
 
-// Leaves the Unix time of the first 14 numbers behind `time`, or returns 23 where they are no valid reading.
+// Leaves the Unix time of the first 14 numbers behind `time`. Refuses with Unrepresentable (23) if they are no valid
+// reading.
 #[no_mangle]
 pub extern "C" fn radio_clock_unix_time(fields: &[i32], time: &mut i64) -> u8
     ensures { λ r. ⌜ called r (now (time .exit)) ≡ answered (now (time .entry)) (unixTimeOf (now (fields .entry))) ⌝ }

@@ -4,8 +4,8 @@ ghost use Rattle.clock_time.specs.Called.{called, left, counted};
 ghost use Rattle.fields_writer.specs.Writers.{writeMinuteFrom};
 ghost use Rattle.radio_clock_readings.specs.Minutes.{readMinuteInto};
 
-// Reads a run of marks into the first 16 of the numbers lent: as the minute's reader refuses, and 20 where there is no
-// room.
+// Reads a run of marks into the first 16 of the numbers lent. Refuses as the minute's reader does, then with LentMemory
+// (20) if there is no room.
 #[no_mangle]
 pub extern "C" fn radio_clock_read_minute(marks: &[u8], fields: &mut [i32]) -> u8
     ensures { λ r. ⌜
@@ -15,8 +15,8 @@ pub extern "C" fn radio_clock_read_minute(marks: &[u8], fields: &mut [i32]) -> u
     clock_numbers::put_minute(dcf77::read_minute(marks), fields)
 }
 
-// Writes numbers as a run of marks to the front of `out`, with their count behind `written`: 23 where no run is read as
-// the numbers, 20 where there is no room.
+// Writes numbers as a run of marks to the front of `out`, with their count behind `written`. Refuses with
+// Unrepresentable (23) if no run is read as the numbers, then with LentMemory (20) if there is no room.
 #[no_mangle]
 pub extern "C" fn radio_clock_write_minute(
     fields: &[i32],

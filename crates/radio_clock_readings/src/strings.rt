@@ -31,8 +31,8 @@ pub extern "C" fn radio_clock_kind(s: &[u8], kind: &mut u8) -> u8
     }
 }
 
-// Reads a string of the kind that a number names into the first of the numbers lent: 1 for no such kind, as the kind's
-// reader refuses, 20 where there is no room.
+// Reads a string of the kind that a number names into the first of the numbers lent. Refuses with Length (1) if it
+// names none, as the kind's reader does, then with LentMemory (20) if there is no room.
 #[no_mangle]
 pub extern "C" fn radio_clock_read(kind: u8, s: &[u8], fields: &mut [i32]) -> u8
     ensures { λ r. ⌜ called r (now (fields .exit)) ≡ left (readInto kind (now (s .entry)) (now (fields .entry))) ⌝ }
@@ -52,8 +52,9 @@ pub extern "C" fn radio_clock_read(kind: u8, s: &[u8], fields: &mut [i32]) -> u8
     1
 }
 
-// Writes numbers as a string of the kind that a number names to the front of `out`, with its length behind `written`: 1
-// for no such kind, 23 where no such string is read as the numbers, 20 where there is no room.
+// Writes numbers as a string of the kind that a number names to the front of `out`, with its length behind `written`.
+// Refuses with Length (1) if it names none, with Unrepresentable (23) if no such string is read as the numbers, then
+// with LentMemory (20) if there is no room.
 #[no_mangle]
 pub extern "C" fn radio_clock_write(
     kind: u8,

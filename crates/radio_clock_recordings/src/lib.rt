@@ -7,7 +7,8 @@ ghost use mathlib.Core.Path.{_≡_};
 ghost use Rattle.recording.specs.Recording.{outcomeAt, fillOutcomes, recorded, correctMark};
 ghost use Rattle.clock_time.specs.Called.{called, answered, left, counted};
 
-// Leaves the number that the rule gives a place behind `number`: 20 for more than 100,000 marks, 21 for no such place.
+// Leaves the number that the rule gives a place behind `number`. Refuses with LentMemory (20) if there are more than
+// 100,000 marks, then with Place (21) if there is no such place.
 #[no_mangle]
 pub extern "C" fn radio_clock_outcome_at(marks: &[u8], place: usize, number: &mut u32) -> u8
     ensures { λ r. ⌜
@@ -23,7 +24,8 @@ pub extern "C" fn radio_clock_outcome_at(marks: &[u8], place: usize, number: &mu
     }
 }
 
-// Puts the number of every place into outcomes: 20 where these do not fit the marks, or the marks are too many.
+// Puts the number of every place into the outcomes. Refuses with LentMemory (20) if these do not fit the marks, or the
+// marks are more than 100,000.
 #[no_mangle]
 pub extern "C" fn radio_clock_fill_outcomes(marks: &[u8], outcomes: &mut [u32]) -> u8
     ensures { λ r. ⌜
@@ -37,7 +39,8 @@ pub extern "C" fn radio_clock_fill_outcomes(marks: &[u8], outcomes: &mut [u32]) 
 }
 
 // Puts a new mark at a place, brings the outcomes up to date, and leaves the count of those that differ behind
-// `changed`: 20 where marks and outcomes do not fit, 21 for no such place, 22 for a mark above 3.
+// `changed`. Refuses with LentMemory (20) if marks and outcomes do not fit, with Place (21) if there is no such place,
+// then with NewMark (22) if the mark is above 3.
 #[no_mangle]
 pub extern "C" fn radio_clock_correct_mark(
     marks: &mut [u8],

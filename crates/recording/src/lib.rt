@@ -31,7 +31,8 @@ pub enum CorrectAnswer {
     Refused(Error),
 }
 
-// The number that the rule gives a place: 20 for more than 100,000 marks, 21 for no such place.
+// The number that the rule gives a place. Refuses with LentMemory (20) if there are more than 100,000 marks, then with
+// Place (21) if there is no such place.
 pub fn outcome_at(marks: &[u8], place: usize) -> OutcomeAnswer
     ensures { λ r. ⌜ outcomeAnswer r ≡ outcomeAt (now (marks .entry)) place ⌝ }
 {
@@ -51,7 +52,8 @@ fn is_unfit(marks: usize, outcomes: usize) -> bool
     (marks != outcomes) | (LONGEST < marks)
 }
 
-// Puts the number of every place into outcomes: 20 where these do not fit the marks, or the marks are too many.
+// Puts the number of every place into the outcomes. Refuses with LentMemory (20) if these do not fit the marks, or the
+// marks are more than 100,000.
 pub fn fill_outcomes(marks: &[u8], outcomes: &mut [u32]) -> FillAnswer
     ensures { λ r. ⌜ filling r (now (outcomes .exit)) ≡ fillOutcomes (now (marks .entry)) (now (outcomes .entry)) ⌝ }
 {
@@ -70,8 +72,9 @@ fn put_mark(marks: &mut [u8], place: usize, mark: u8)
     marks[place] = mark;
 }
 
-// Puts a new mark at a place, brings the outcomes up to date, and counts those that differ: 20 where marks and outcomes
-// do not fit, 21 for no such place, 22 for a mark above 3.
+// Puts a new mark at a place, brings the outcomes up to date, and counts those that differ. Refuses with LentMemory
+// (20) if marks and outcomes do not fit, with Place (21) if there is no such place, then with NewMark (22) if the mark
+// is above 3.
 pub fn correct_mark(marks: &mut [u8], outcomes: &mut [u32], place: usize, mark: u8) -> CorrectAnswer
     ensures { λ r. ⌜
         correction r (now (marks .exit)) (now (outcomes .exit))

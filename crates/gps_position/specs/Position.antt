@@ -81,16 +81,16 @@ readPosition s = checked (given 9 (positionFault s) ∷ []) (positionOf s)
 
 -- a position from its two letters, the sizes of its angles and its height, or 9
 abbrev pub positionFrom : ℕ → ℕ → ℕ → ℕ → ℕ → Answer Position
-positionFrom north lat east lon height =
+positionFrom latitudeLetter lat longitudeLetter lon height =
     checked
     (given 9
     (not
-    (signHolds (code (latitude .above)) (code (latitude .below)) (latitude .limit) north lat
-    && signHolds (code (longitude .above)) (code (longitude .below)) (longitude .limit) east lon))
+    (signHolds (code (latitude .above)) (code (latitude .below)) (latitude .limit) latitudeLetter lat
+    && signHolds (code (longitude .above)) (code (longitude .below)) (longitude .limit) longitudeLetter lon))
     ∷ [])
     (record {
-      latitude = signed (eqb north (code (latitude .below))) lat;
-      longitude = signed (eqb east (code (longitude .below))) lon;
+      latitude = signed (eqb latitudeLetter (code (latitude .below))) lat;
+      longitude = signed (eqb longitudeLetter (code (longitude .below))) lon;
       height = height;
     })
 

@@ -55,15 +55,21 @@ fn height(s: &[u8]) -> u16
 }
 
 // The position of two letters, two sizes and a height. Refuses with Position (9) if a letter or a size is none.
-fn position_from(north: u8, lat: u32, east: u8, lon: u32, height: u16) -> PositionAnswer
-    ensures { λ r. ⌜ positionAnswer r ≡ positionFrom north lat east lon height ⌝ }
+fn position_from(
+    latitude_letter: u8,
+    lat: u32,
+    longitude_letter: u8,
+    lon: u32,
+    height: u16,
+) -> PositionAnswer
+    ensures { λ r. ⌜ positionAnswer r ≡ positionFrom «latitude_letter» lat «longitude_letter» lon height ⌝ }
 {
-    let latitude_holds = signed::sign_holds(b'N', b'S', 900000, north, lat);
-    let longitude_holds = signed::sign_holds(b'E', b'W', 1800000, east, lon);
+    let latitude_holds = signed::sign_holds(b'N', b'S', 900000, latitude_letter, lat);
+    let longitude_holds = signed::sign_holds(b'E', b'W', 1800000, longitude_letter, lon);
     if latitude_holds & longitude_holds {
         return PositionAnswer::Read(Position {
-            latitude: signed::with_sign(north == b'S', lat) as i32,
-            longitude: signed::with_sign(east == b'W', lon) as i32,
+            latitude: signed::with_sign(latitude_letter == b'S', lat) as i32,
+            longitude: signed::with_sign(longitude_letter == b'W', lon) as i32,
             height: height,
         });
     }

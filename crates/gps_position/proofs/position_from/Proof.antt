@@ -16,18 +16,18 @@ latitude-held c =
     let r = c .before .before in
     let x = r .before .before .args in
     let first = both (r .before .sign-holds .result) (r .sign-holds2 .result) (c .before .if1 .taken) .0 in
-    let limit = sign-limit 78 83 900000 (x .north) (x .lat) (sym (r .before .sign-holds .ensures) ∙ first) in
+    let limit = sign-limit 78 83 900000 (x .latitude-letter) (x .lat) (sym (r .before .sign-holds .ensures) ∙ first) in
     let h : x .lat < 2 ^ 31 = omega arith in
-    rw (c .with-sign .ensures) (signed-fits w32 (eqb (x .north) 83) (x .lat) h)
+    rw (c .with-sign .ensures) (signed-fits w32 (eqb (x .latitude-letter) 83) (x .lat) h)
 
 longitude-held : (c : tie.After-with-sign2) → SFits w32 (c .with-sign2 .result)
 longitude-held c =
     let r = c .before .before .before in
     let x = r .before .before .args in
     let second = both (r .before .sign-holds .result) (r .sign-holds2 .result) (c .before .before .if1 .taken) .1 in
-    let limit = sign-limit 69 87 1800000 (x .east) (x .lon) (sym (r .sign-holds2 .ensures) ∙ second) in
+    let limit = sign-limit 69 87 1800000 (x .longitude-letter) (x .lon) (sym (r .sign-holds2 .ensures) ∙ second) in
     let h : x .lon < 2 ^ 31 = omega arith in
-    rw (c .with-sign2 .ensures) (signed-fits w32 (eqb (x .east) 87) (x .lon) h)
+    rw (c .with-sign2 .ensures) (signed-fits w32 (eqb (x .longitude-letter) 87) (x .lon) h)
 
 cast-t11 : tie.Need-cast-t11
 cast-t11 c =

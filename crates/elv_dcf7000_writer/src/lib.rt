@@ -15,31 +15,26 @@ fn flag_sum(summer: bool, change: bool, unsynchronised: bool) -> u8
 fn line_with(t: ClockTime, flags: u8) -> [u8; 21]
     ensures { λ r. ⌜ r ≡ lineWith t flags ⌝ }
 {
-    let year = decimal::pair(t.year as u32);
-    let month = decimal::pair(t.month as u32);
-    let day = decimal::pair(t.day as u32);
-    let hour = decimal::pair(t.hour as u32);
-    let minute = decimal::pair(t.minute as u32);
-    let second = decimal::pair(t.second as u32);
+    let d = layout::clock_digits(t);
     let number = decimal::pair(flags as u32);
     [
-        (year % 256) as u8,
-        (year / 256) as u8,
+        d[0],
+        d[1],
         b'-',
-        (month % 256) as u8,
-        (month / 256) as u8,
+        d[2],
+        d[3],
         b'-',
-        (day % 256) as u8,
-        (day / 256) as u8,
+        d[4],
+        d[5],
         b'-',
-        (hour % 256) as u8,
-        (hour / 256) as u8,
+        d[6],
+        d[7],
         b'-',
-        (minute % 256) as u8,
-        (minute / 256) as u8,
+        d[8],
+        d[9],
         b'-',
-        (second % 256) as u8,
-        (second / 256) as u8,
+        d[10],
+        d[11],
         b'-',
         (number % 256) as u8,
         (number / 256) as u8,

@@ -2,7 +2,7 @@
 use Prim.Native.Nat.{ℕ}
 use Prim.Native.Char.{Char, code}
 use mathlib.Core.Bool.{Bool, false, cond, not, _&&_, _||_}
-use mathlib.Core.List.{List, [], _∷_}
+use mathlib.Core.List.{List, [], _∷_, _++_}
 use lib.Dec.{leb, eqb}
 use lib.ListN.{length}
 use Rattle.clock_time.specs.Errors.{Answer, accepted, refused, errorNumber, Check, given, checked}
@@ -11,6 +11,7 @@ use Rattle.clock_time.specs.Writing.{Outcome, writeBack}
 use Rattle.clock_time.specs.declared.ClockTime.{ClockTime}
 use Rattle.gregorian.specs.Date.{dateExists}
 use Rattle.calendar.specs.TimeOfDay.{timeExists}
+use Rattle.decimal.specs.Decimal.{digits}
 use Rattle.layout.specs.Layout.{found}
 use Rattle.layout.specs.declared.ReadAnswer.{ReadAnswer}
 use Rattle.layout.specs.declared.ReadAnswer.the-variants.{Read, Refused}
@@ -73,6 +74,12 @@ writeText f a buffer = writeBack (readText f) (f .text) (f .same) a buffer
 -- a letter where a flag is set, else a blank
 abbrev pub letter : Bool → Char → ℕ
 letter on c = cond on (code c) 32
+
+-- the last two digits of each number of date and time
+unfoldable pub clockDigits : ClockTime → List ℕ
+clockDigits t =
+    digits 2 (t .year) ++ digits 2 (t .month) ++ digits 2 (t .day)
+    ++ digits 2 (t .hour) ++ digits 2 (t .minute) ++ digits 2 (t .second)
 
 -- a reader's answer: a clock time, or a refusal with the error's number
 abbrev pub readAnswer : ReadAnswer → Answer ClockTime

@@ -6,7 +6,7 @@ ghost use mathlib.Core.Path.{_≡_};
 ghost use lib.ListN.{length};
 ghost use Rattle.clock_time.specs.Errors.{errorNumber, checked};
 ghost use Rattle.layout.specs.Layout.{allowed, errorAt, offence, first, layoutError};
-ghost use Rattle.layout.specs.Text.{clockChecks, readAnswer};
+ghost use Rattle.layout.specs.Text.{clockChecks, readAnswer, clockDigits};
 ghost use mathlib.Core.Bool.{cond};
 
 pub mod words;
@@ -112,4 +112,33 @@ pub fn letter_if(on: bool, letter: u8) -> u8
     ensures { λ r. ⌜ r ≡ cond on letter 32 ⌝ }
 {
     if on { letter } else { b' ' }
+}
+
+// The twelve digits of date and time, two for each number, as every line that is written has them.
+pub type ClockDigits = [u8; 12];
+
+// The last two digits of year, month, day, hour, minute and second.
+pub fn clock_digits(t: ClockTime) -> ClockDigits
+    ensures { λ r. ⌜ r ≡ clockDigits t ⌝ }
+{
+    let year = decimal::pair(t.year as u32);
+    let month = decimal::pair(t.month as u32);
+    let day = decimal::pair(t.day as u32);
+    let hour = decimal::pair(t.hour as u32);
+    let minute = decimal::pair(t.minute as u32);
+    let second = decimal::pair(t.second as u32);
+    [
+        (year % 256) as u8,
+        (year / 256) as u8,
+        (month % 256) as u8,
+        (month / 256) as u8,
+        (day % 256) as u8,
+        (day / 256) as u8,
+        (hour % 256) as u8,
+        (hour / 256) as u8,
+        (minute % 256) as u8,
+        (minute / 256) as u8,
+        (second % 256) as u8,
+        (second / 256) as u8,
+    ]
 }

@@ -34,32 +34,27 @@ pub fn line_of(t: ClockTime) -> LineBytes
     let zone = meinberg_gps_writer::parts::offset_text(t.utc_offset);
     let flags = flags_text(t);
     let century = decimal::pair(t.year as u32 / 10 / 10);
-    let year = decimal::pair(t.year as u32);
-    let month = decimal::pair(t.month as u32);
-    let day = decimal::pair(t.day as u32);
-    let hour = decimal::pair(t.hour as u32);
-    let minute = decimal::pair(t.minute as u32);
-    let second = decimal::pair(t.second as u32);
+    let d = layout::clock_digits(t);
     [
         (century % 256) as u8,
         (century / 256) as u8,
-        (year % 256) as u8,
-        (year / 256) as u8,
+        d[0],
+        d[1],
         b'-',
-        (month % 256) as u8,
-        (month / 256) as u8,
+        d[2],
+        d[3],
         b'-',
-        (day % 256) as u8,
-        (day / 256) as u8,
+        d[4],
+        d[5],
         b' ',
-        (hour % 256) as u8,
-        (hour / 256) as u8,
+        d[6],
+        d[7],
         b':',
-        (minute % 256) as u8,
-        (minute / 256) as u8,
+        d[8],
+        d[9],
         b':',
-        (second % 256) as u8,
-        (second / 256) as u8,
+        d[10],
+        d[11],
         b' ',
         zone[0],
         zone[1],

@@ -9,35 +9,30 @@ ghost use Rattle.meinberg_pzf.specs.Pzf.{lineWith, pzfText, pzfRepresentable, w
 fn line_with(t: ClockTime, utc: u8, u: u8, v: u8, x: u8, y: u8, z: u8, a: u8) -> [u8; 32]
     ensures { λ r. ⌜ r ≡ lineWith t utc u v x y z a ⌝ }
 {
-    let year = decimal::pair(t.year as u32);
-    let month = decimal::pair(t.month as u32);
-    let day = decimal::pair(t.day as u32);
-    let hour = decimal::pair(t.hour as u32);
-    let minute = decimal::pair(t.minute as u32);
-    let second = decimal::pair(t.second as u32);
+    let d = layout::clock_digits(t);
     [
         2,
-        (day % 256) as u8,
-        (day / 256) as u8,
+        d[4],
+        d[5],
         b'.',
-        (month % 256) as u8,
-        (month / 256) as u8,
+        d[2],
+        d[3],
         b'.',
-        (year % 256) as u8,
-        (year / 256) as u8,
+        d[0],
+        d[1],
         b';',
         b' ',
         48 + t.weekday % 10,
         b';',
         b' ',
-        (hour % 256) as u8,
-        (hour / 256) as u8,
+        d[6],
+        d[7],
         b':',
-        (minute % 256) as u8,
-        (minute / 256) as u8,
+        d[8],
+        d[9],
         b':',
-        (second % 256) as u8,
-        (second / 256) as u8,
+        d[10],
+        d[11],
         b';',
         b' ',
         utc,

@@ -31,24 +31,19 @@ fn announced_letter(change: bool, leap: bool) -> u8
 fn line_with(t: ClockTime, u: u8, v: u8, x: u8, y: u8) -> [u8; 32]
     ensures { λ r. ⌜ r ≡ lineWith t u v x y ⌝ }
 {
-    let year = decimal::pair(t.year as u32);
-    let month = decimal::pair(t.month as u32);
-    let day = decimal::pair(t.day as u32);
-    let hour = decimal::pair(t.hour as u32);
-    let minute = decimal::pair(t.minute as u32);
-    let second = decimal::pair(t.second as u32);
+    let d = layout::clock_digits(t);
     [
         2,
         b'D',
         b':',
-        (day % 256) as u8,
-        (day / 256) as u8,
+        d[4],
+        d[5],
         b'.',
-        (month % 256) as u8,
-        (month / 256) as u8,
+        d[2],
+        d[3],
         b'.',
-        (year % 256) as u8,
-        (year / 256) as u8,
+        d[0],
+        d[1],
         b';',
         b'T',
         b':',
@@ -56,14 +51,14 @@ fn line_with(t: ClockTime, u: u8, v: u8, x: u8, y: u8) -> [u8; 32]
         b';',
         b'U',
         b':',
-        (hour % 256) as u8,
-        (hour / 256) as u8,
+        d[6],
+        d[7],
         b'.',
-        (minute % 256) as u8,
-        (minute / 256) as u8,
+        d[8],
+        d[9],
         b'.',
-        (second % 256) as u8,
-        (second / 256) as u8,
+        d[10],
+        d[11],
         b';',
         u,
         v,

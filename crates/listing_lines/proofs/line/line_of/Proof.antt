@@ -7,6 +7,7 @@ use borrow.Author.Needs.{sfits-of}
 use Rattle.decimal.specs.Decimal.{digits}
 use Rattle.decimal.proofs.PairLaws.{first-byte, second-byte}
 use Rattle.layout.specs.Ascii.{ascii}
+use Rattle.layout.specs.Text.{clockDigits}
 use Rattle.listing_lines.specs.Line.{lineWith}
 use Rattle.listing_lines.proofs.LineLaws.{line-parts}
 use Rattle.listing_lines.proofs.line.line_of.Statement.{statement}
@@ -16,38 +17,22 @@ offset-fits : (c : tie.Start) → SFits w16 (c .args .t .«utc_offset»)
 offset-fits c = search sfits-of
 
 returns : tie.Need-returns
-unfolding lineWith digits ascii
+unfolding lineWith digits ascii clockDigits
 returns c =
-    let minute = c .before .before in
-    let hour = minute .before .before in
-    let day = hour .before .before in
-    let month = day .before .before in
-    let year = month .before .before in
-    let century = year .before .before in
+    let century = c .before in
     let flags = century .before .before in
     let x = flags .before .before .before in
     let zone = rw (toZ-ofZ (offset-fits x)) at (flags .before .offset-text .ensures) in
-    simp (
-      c .pair7 .ensures,
-      minute .pair6 .ensures,
-      hour .pair5 .ensures,
-      day .pair4 .ensures,
-      month .pair3 .ensures,
-      year .pair2 .ensures,
-      century .pair .ensures,
-      first-byte,
-      second-byte,
-    )
+    simp (c .clock-digits .ensures, century .pair .ensures, first-byte, second-byte)
     (line-parts (x .args .t) zone (flags .flags-text .ensures))
 
 pub line-of-spec : {M : Type 1} → statement M
 line-of-spec =
     tie.close
     (tie.spec (λ c κs. search needs) (λ c κs. search needs) (λ c. search needs) (λ c κs. search needs)
-    (λ c. search needs) (λ c κs. search needs) (λ c. search needs) (λ c κs. search needs) (λ c. search needs)
-    (λ c κs. search needs) (λ c. search needs) (λ c κs. search needs) (λ c. search needs) (λ c κs. search needs)
-    (λ c. search needs) (λ c κs. search needs) (λ c. search needs) (λ c. search needs) (λ c. search needs)
+    (λ c κs. search needs) (λ c. search needs) (λ c. search needs) (λ c. search needs) (λ c. search needs)
     (λ c. search needs) (λ c. search needs) (λ c. search needs) (λ c. search needs) (λ c. search needs)
     (λ c. search needs) (λ c. search needs) (λ c. search needs) (λ c. search needs) (λ c. search needs)
-    (λ c. search needs) (λ c. lit< tt) (λ c. lit< tt) (λ c. lit< tt) (λ c. lit< tt) (λ c. lit< tt) (λ c. lit< tt)
-    (λ c. lit< tt) (λ c. lit< tt) (λ c. lit< tt) (λ c. lit< tt) (λ c. lit< tt) (λ c. lit< tt) (λ c. lit< tt) returns)
+    (λ c. search needs) (λ c. search needs) (λ c. search needs) (λ c. search needs) (λ c. search needs)
+    (λ c. search needs) (λ c. search needs) (λ c. search needs) (λ c. search needs) (λ c. search needs)
+    (λ c. search needs) (λ c. search needs) (λ c. search needs) returns)

@@ -2,7 +2,7 @@
 use layout::words::ThreeNumbers;
 ghost use mathlib.Core.Path.{_≡_};
 ghost use mathlib.Core.List.{[], _∷_};
-ghost use Rattle.layout.specs.Layout.{run};
+ghost use Rattle.clock_time.specs.Lists.{slice};
 ghost use Rattle.layout.specs.Words.{word, enough, sampleFits, bySample, eachBySample, numbersAt};
 ghost use Rattle.layout.specs.Words.{flagsFit, nonzeroBytes};
 
@@ -14,7 +14,7 @@ fn join(a: u8, b: u8, c: u8, d: u8, e: u8, f: u8, g: u8, h: u8) -> u64
 }
 
 fn word_at(s: &[u8], at: usize) -> u64
-    ensures { λ r. ⌜ r ≡ word (run at 8 (enough at (now (s .entry)))) ⌝ }
+    ensures { λ r. ⌜ r ≡ word (slice at 8 (enough at (now (s .entry)))) ⌝ }
 {
     if s.len() < 8 {
         return 0;

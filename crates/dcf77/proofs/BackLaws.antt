@@ -2,7 +2,7 @@
 use Prim.Native.Nat.{ℕ, _+_, _/_, _%_, _≤_, _<_}
 use native.Mathlib.Omega.{arith}
 use native.Mathlib.Decide.{ℕ-discrete}
-use mathlib.Core.Path.{_≡_, refl, ap, _∙_}
+use mathlib.Core.Path.{_≡_, refl, ap, _∙_, ap₂}
 use mathlib.Core.Logic.{⊎-elim}
 use mathlib.Core.Bool.{cond, not}
 use mathlib.Core.List.{List, [], _∷_, _++_}
@@ -10,14 +10,15 @@ use lib.Dec.{eqb, lit≤}
 use lib.ListN.{length, getD, take, drop}
 use borrow.Author.Tests.{eq-eqb, ne-eqb}
 use Rattle.clock_time.specs.Errors.{accepted}
-use Rattle.gregorian.specs.Date.{sum}
+use Rattle.clock_time.specs.Lists.{sum, slice}
+use Rattle.clock_time.proofs.ListsLaws.{slice-all, slice-slice}
 use Rattle.dcf77.specs.Marks.{binary, twoDigits, longs, bits}
 use Rattle.dcf77.specs.Minute.{announced, minuteFields, readMinute, mark, withParity, firstMarks, minuteText}
 use Rattle.dcf77.specs.Says.{fourMarks, RunRules, LeapRule}
 use Rattle.dcf77.specs.declared.MinuteTime.{MinuteTime}
 use Rattle.dcf77.proofs.SaysLaws.{four, longs-sum, long-enough}
 use Rattle.dcf77.proofs.AcceptLaws.{read-keeps}
-use Rattle.dcf77.proofs.BitLaws.{marksFrom, marks-all, marks-join, bits-binary, parity-mark, parity-last}
+use Rattle.dcf77.proofs.BitLaws.{bits-binary, parity-mark, parity-last}
 use Rattle.dcf77.proofs.BitLaws.{ones-digit, tens-digit, year-digits}
 
 -- ---- single marks
@@ -44,16 +45,12 @@ module _ (m : List ℕ) (r : RunRules m) where
   -- ---- the three groups
   number-group : (at tens : ℕ) → binary 4 at m ≤ 9 → longs (4 + tens + 1) at m % 2 ≡ 0
       → withParity (bits 4 (twoDigits at tens m % 10) ++ bits tens (twoDigits at tens m / 10))
-      ≡ marksFrom (4 + tens + 1) at m
+      ≡ slice at (4 + tens + 1) m
   number-group at tens digit even =
-      rw (
-        ones-digit m at tens digit,
-        tens-digit m at tens digit,
-        bits-binary m (r .sure) 4 at,
-        bits-binary m (r .sure) tens (4 + at),
-        marks-join m 4 tens at,
-      )
-      (parity-last m (r .sure) (4 + tens) at even)
+      let ones = ap (bits 4) (ones-digit m at tens digit) ∙ bits-binary m (r .sure) 4 at in
+      let rest = ap (bits tens) (tens-digit m at tens digit) ∙ bits-binary m (r .sure) tens (4 + at) in
+      ap withParity (ap₂ (λ (a b : List ℕ). a ++ b) ones rest ∙ slice-slice m 4 tens at)
+      ∙ parity-last m (r .sure) (4 + tens) at even
 
   year-small : twoDigits 50 4 m < 100
   unfolding twoDigits
@@ -61,8 +58,8 @@ module _ (m : List ℕ) (r : RunRules m) where
 
   date-group : let t = announced m in
       withParity (bits 4 (t .day % 10) ++ bits 2 (t .day / 10) ++ bits 3 (t .weekday) ++ bits 4 (t .month % 10)
-      ++ bits 1 (t .month / 10) ++ bits 4 (t .year % 10) ++ bits 4 (t .year / 10 % 10)) ≡ marksFrom 23 36 m
-  unfolding announced marksFrom
+      ++ bits 1 (t .month / 10) ++ bits 4 (t .year % 10) ++ bits 4 (t .year / 10 % 10)) ≡ slice 36 23 m
+  unfolding announced
   date-group =
       let year = year-digits (twoDigits 50 4 m) year-small in
       rw (
@@ -83,8 +80,8 @@ module _ (m : List ℕ) (r : RunRules m) where
       )
 
   -- ---- the whole run
-  first-marks : firstMarks (minuteFields m) ≡ marksFrom 59 0 m
-  unfolding firstMarks minuteFields announced marksFrom
+  first-marks : firstMarks (minuteFields m) ≡ slice 0 59 m
+  unfolding firstMarks minuteFields announced
   first-marks =
       rw (
         number-group 21 3 (digit 21 (r .minute-digit)) (even 8 21 (lit≤ tt) (r .minute-parity)),
@@ -100,15 +97,14 @@ module _ (m : List ℕ) (r : RunRules m) where
         r .start,
       )
 
-  whole-run : (n : ℕ) → length m ≡ n → marksFrom 59 0 m ++ cond (eqb n 60) (0 ∷ []) [] ≡ marksFrom n 0 m
+  whole-run : (n : ℕ) → length m ≡ n → slice 0 59 m ++ cond (eqb n 60) (0 ∷ []) [] ≡ slice 0 n m
       → minuteText (minuteFields m) ≡ m
   unfolding minuteText minuteFields
   whole-run n e last =
-      let all : marksFrom n 0 m ≡ m = rw (← e) (marks-all m) in
+      let all : slice 0 n m ≡ m = rw (← e) (slice-all m) in
       ap (λ (l : List ℕ). l ++ cond (eqb (length m) 60) (0 ∷ []) []) first-marks ∙ rw e (last ∙ all)
 
   minute-back : LeapRule m (announced m) → minuteText (minuteFields m) ≡ m
-  unfolding marksFrom
   minute-back leap =
       ⊎-elim (λ e. whole-run 59 e refl) (λ e. whole-run 60 e (rw (leap e .1))) (r .marks)
 

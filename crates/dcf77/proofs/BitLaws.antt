@@ -1,45 +1,27 @@
 -- Marks and the bits of their numbers, over any number of marks.
 use Prim.Native.Nat.{ℕ, zero, suc, _+_, _*_, _/_, _%_, _^_, _≤_, _<_}
-use native.Mathlib.Nat.{zero-add, add-zero, add-suc, suc-add, add-comm, pow-succ'}
+use native.Mathlib.Nat.{add-zero, add-suc, suc-add, add-comm, pow-succ'}
 use native.Mathlib.Numerals.{add-one}
 use native.Mathlib.Omega.{arith}
-use mathlib.Core.Path.{_≡_, refl, ap, _∙_}
-use mathlib.Core.List.{List, [], _∷_, _++_}
-use lib.ListN.{length, getD}
-use Rattle.gregorian.specs.Date.{sum, fullYear}
+use mathlib.Core.Path.{_≡_, refl, ap}
+use mathlib.Core.List.{List, _∷_}
+use lib.ListN.{getD}
+use Rattle.clock_time.specs.Lists.{sum, slice}
+use Rattle.clock_time.proofs.ListsLaws.{slice-slice}
+use Rattle.gregorian.specs.Date.{fullYear}
 use Rattle.dcf77.specs.Marks.{binary, twoDigits, longs, bits}
 use Rattle.dcf77.specs.Minute.{withParity}
 use Rattle.dcf77.proofs.MarkLaws.{low-part, high-part}
 
--- k marks from a place on
-unfoldable pub marksFrom : ℕ → ℕ → List ℕ → List ℕ
-marksFrom zero at m = []
-marksFrom (suc k) at m = getD m at 0 ∷ marksFrom k (suc at) m
-
-later : (k at b : ℕ) (m : List ℕ) → marksFrom k (suc at) (b ∷ m) ≡ marksFrom k at m
-unfolding marksFrom
-later zero at b m = refl
-later (suc k) at b m = ap (λ (l : List ℕ). getD m at 0 ∷ l) (later k (suc at) b m)
-
-pub marks-all : (m : List ℕ) → marksFrom (length m) 0 m ≡ m
-unfolding marksFrom
-marks-all [] = refl
-marks-all (b ∷ m) = ap (λ (l : List ℕ). b ∷ l) (later (length m) 0 b m ∙ marks-all m)
-
-pub marks-join : (m : List ℕ) (j k at : ℕ) → marksFrom j at m ++ marksFrom k (j + at) m ≡ marksFrom (j + k) at m
-unfolding marksFrom
-marks-join m zero k at = rw (zero-add at, zero-add k)
-marks-join m (suc j) k at = rw (suc-add j at, ← (add-suc j at), suc-add j k, marks-join m j k (suc at))
-
-longs-last : (m : List ℕ) (k at : ℕ) → longs (suc k) at m ≡ sum (marksFrom k at m) + getD m (at + k) 0
-unfolding longs marksFrom
+longs-last : (m : List ℕ) (k at : ℕ) → longs (suc k) at m ≡ sum (slice at k m) + getD m (at + k) 0
+unfolding longs
 longs-last m zero at = rw (add-zero at) (omega arith)
 longs-last m (suc k) at = rw (add-suc, ← suc-add) (omega (arith, longs-last m k (suc at)))
 
 module _ (m : List ℕ) (small : (k : ℕ) → getD m k 0 ≤ 1) where
   -- the bits of the number of marks are the marks
-  pub bits-binary : (k at : ℕ) → bits k (binary k at m) ≡ marksFrom k at m
-  unfolding bits binary marksFrom
+  pub bits-binary : (k at : ℕ) → bits k (binary k at m) ≡ slice at k m
+  unfolding bits binary
   bits-binary zero at = refl
   bits-binary (suc k) at =
       let h : getD m at 0 < 2 = omega (arith, small at) in
@@ -47,19 +29,18 @@ module _ (m : List ℕ) (small : (k : ℕ) → getD m k 0 ≤ 1) where
       rw (low-part n h, high-part n h, bits-binary k (suc at))
 
   -- where the whole is even, the last mark is the sum of the others modulo 2
-  pub parity-mark : (k at : ℕ) → longs (suc k) at m % 2 ≡ 0 → sum (marksFrom k at m) % 2 ≡ getD m (at + k) 0
+  pub parity-mark : (k at : ℕ) → longs (suc k) at m % 2 ≡ 0 → sum (slice at k m) % 2 ≡ getD m (at + k) 0
   parity-mark k at even =
-      let h : (sum (marksFrom k at m) + getD m (at + k) 0) % 2 ≡ 0 = rw (longs-last m k at) at even in
+      let h : (sum (slice at k m) + getD m (at + k) 0) % 2 ≡ 0 = rw (longs-last m k at) at even in
       omega (arith, small (at + k))
 
   -- the marks before the last, and their parity
-  pub parity-last : (k at : ℕ) → longs (k + 1) at m % 2 ≡ 0 → withParity (marksFrom k at m) ≡ marksFrom (k + 1) at m
-  unfolding marksFrom
+  pub parity-last : (k at : ℕ) → longs (k + 1) at m % 2 ≡ 0 → withParity (slice at k m) ≡ slice at (k + 1) m
   parity-last k at even =
-      rw (parity-mark k at (rw (add-one k) at even), add-comm at k) (marks-join m k 1 at)
+      rw (parity-mark k at (rw (add-one k) at even), add-comm at k) (slice-slice m k 1 at)
 
 -- a mark that is the sum of those before it modulo 2 makes the whole even
-pub parity-even : (m : List ℕ) (k at : ℕ) → getD m (at + k) 0 ≡ sum (marksFrom k at m) % 2 → longs (suc k) at m % 2 ≡ 0
+pub parity-even : (m : List ℕ) (k at : ℕ) → getD m (at + k) 0 ≡ sum (slice at k m) % 2 → longs (suc k) at m % 2 ≡ 0
 parity-even m k at last = rw (longs-last m k at, last) (omega arith)
 
 later-binary : (k at b : ℕ) (m : List ℕ) → binary k (suc at) (b ∷ m) ≡ binary k at m

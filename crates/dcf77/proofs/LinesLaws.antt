@@ -15,7 +15,7 @@ use Rattle.clock_time.specs.declared.ClockTime.{ClockTime}
 use Rattle.clock_time.proofs.ExactLaws.{eq-exactly, le-exactly, above-exactly, not-exactly, passes-exactly}
 use Rattle.clock_time.proofs.ExactLaws.{both-exactly, either-exactly, not-both-exactly}
 use Rattle.clock_time.proofs.OrderLaws.{Agree}
-use Rattle.gregorian.specs.Date.{sum}
+use Rattle.clock_time.specs.Lists.{sum}
 use Rattle.gregorian.specs.Rules.{GregorianDate}
 use Rattle.gregorian.proofs.RulesLaws.{date-exactly}
 use Rattle.calendar.specs.Rules.{TimeOfDay}

@@ -11,7 +11,7 @@ use lib.Seq.{take-suc-set}
 use lib.Count.{ones, ones-step}
 use lib.Arith.{digits-lt}
 use lib.Pow.{pow-pos, pow-add, field, mod-mod-pow}
-use Rattle.gregorian.specs.Date.{sum}
+use Rattle.clock_time.specs.Lists.{sum}
 use Rattle.dcf77.specs.Marks.{bits}
 use Rattle.dcf77.specs.Writable.{Spells}
 use Rattle.dcf77.specs.Minute.{mark, withParity}

@@ -11,7 +11,8 @@ use lib.IntN.{pos}
 use lib.ListN.{length, getD, take, drop}
 use borrow.Author.Tests.{not-false, eqb-true, lt-ltb}
 use Rattle.clock_time.proofs.Tests.{both}
-use Rattle.gregorian.specs.Date.{sum, dateExists, supportedDate, fullYear}
+use Rattle.clock_time.specs.Lists.{sum, slice}
+use Rattle.gregorian.specs.Date.{dateExists, supportedDate, fullYear}
 use Rattle.gregorian.proofs.DateLaws.{Known, known}
 use Rattle.gregorian.proofs.RulesLaws.{date-exactly}
 use Rattle.calendar.specs.TimeOfDay.{timeExists}
@@ -24,7 +25,7 @@ use Rattle.dcf77.specs.declared.MinuteTime.{MinuteTime}
 use Rattle.dcf77.proofs.MarkLaws.{sure-small}
 use Rattle.dcf77.proofs.SaysLaws.{four, longs-sum}
 use Rattle.dcf77.proofs.AcceptLaws.{KeepsRules}
-use Rattle.dcf77.proofs.BitLaws.{marksFrom, parity-even, binary-bits, two-digits}
+use Rattle.dcf77.proofs.BitLaws.{parity-even, binary-bits, two-digits}
 use Rattle.dcf77.proofs.FitLaws.{Fits}
 
 -- ---- marks that are all sure
@@ -203,9 +204,9 @@ module _ (a : MinuteTime) (w : Fits a) where
   opened = (refl, refl, marks-differ (a .time .«summer_time»))
 
   parities : let m = minuteText a in
-      (getD m (21 + 7) 0 ≡ sum (marksFrom 7 21 m) % 2) × (getD m (29 + 6) 0 ≡ sum (marksFrom 6 29 m) % 2)
-      × (getD m (36 + 22) 0 ≡ sum (marksFrom 22 36 m) % 2)
-  unfolding minuteText firstMarks bits marksFrom
+      (getD m (21 + 7) 0 ≡ sum (slice 21 7 m) % 2) × (getD m (29 + 6) 0 ≡ sum (slice 29 6 m) % 2)
+      × (getD m (36 + 22) 0 ≡ sum (slice 36 22 m) % 2)
+  unfolding minuteText firstMarks bits
   parities = (refl, refl, refl)
 
   even : (k at : ℕ) → at + k ≤ 59 → longs k at (minuteText a) % 2 ≡ 0 → sum (take k (drop at (minuteText a))) % 2 ≡ 0

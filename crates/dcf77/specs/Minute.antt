@@ -7,9 +7,10 @@ use lib.ListN.{length, getD}
 use lib.IntN.{pos}
 use Rattle.clock_time.specs.Errors.{Answer, accepted, refused, errorNumber, Check, given, checked}
 use Rattle.clock_time.specs.Same.{sameTime}
-use Rattle.clock_time.specs.Writing.{Outcome, writeBack}
+use Rattle.clock_time.specs.Writing.{Written, writeBack}
 use Rattle.clock_time.specs.declared.ClockTime.{ClockTime}
-use Rattle.gregorian.specs.Date.{dateExists, fullYear, sum}
+use Rattle.clock_time.specs.Lists.{sum}
+use Rattle.gregorian.specs.Date.{dateExists, fullYear}
 use Rattle.calendar.specs.TimeOfDay.{timeExists}
 use Rattle.dcf77.specs.Marks.{long, short, allSure, binary, twoDigits, isOdd, bits}
 use Rattle.dcf77.specs.declared.MinuteTime.{MinuteTime}
@@ -117,5 +118,5 @@ sameMinute a b =
     && Bool·beq (a .detail .sixty) (b .detail .sixty)
 
 -- "For a writer: 23, 20; it fills the first places it needs and changes nothing after them." (01, Refusal numbers)
-unfoldable pub writeMinute : MinuteTime → List ℕ → Outcome
+unfoldable pub writeMinute : MinuteTime → List ℕ → Written
 writeMinute a buffer = writeBack readMinute minuteText sameMinute a buffer

@@ -8,7 +8,7 @@ ghost use mathlib.Core.List.{[], _∷_, _++_};
 ghost use Prim.Native.Nat.{_/_, _%_};
 ghost use lib.IntN.{pos};
 ghost use Rattle.clock_time.specs.Same.{eqℤ};
-ghost use Rattle.clock_time.specs.Writing.{outcome};
+ghost use Rattle.clock_time.specs.Writing.{written};
 ghost use Rattle.dcf77.specs.Marks.{bits};
 ghost use Rattle.dcf77.specs.Writable.{Spells, fieldsRepresentable, minuteRepresentable};
 ghost use Rattle.dcf77.specs.Minute.{mark, withParity, firstMarks, minuteText, writeMinute};
@@ -138,7 +138,7 @@ fn is_representable(a: MinuteTime) -> bool
 // Writes the run that is made of a minute, if it is read as that minute.
 pub(crate) fn write_run(a: MinuteTime, run: &[u8], out: &mut [u8]) -> WriteAnswer
     requires { ⌜ now run ≡ minuteText a ⌝ }
-    ensures { λ r. ⌜ outcome r (now (out .exit)) ≡ writeMinute a (now (out .entry)) ⌝ }
+    ensures { λ r. ⌜ written r (now (out .exit)) ≡ writeMinute a (now (out .entry)) ⌝ }
 {
     let writable = is_representable(a);
     clock_time::write_bytes(writable, run, out)

@@ -5,7 +5,7 @@ use mathlib.Core.List.{List, [], _∷_, _++_}
 use lib.Dec.{leb, ltb}
 use lib.ListN.{length}
 use Rattle.clock_time.specs.Errors.{Answer, accepted, refused}
-use Rattle.clock_time.specs.Writing.{Outcome, writing}
+use Rattle.clock_time.specs.Writing.{Written, writing}
 use Rattle.decimal.specs.declared.DigitsRead.{DigitsRead}
 use Rattle.decimal.specs.declared.DigitsRead.the-variants.{Number, NotDigit, TooLong}
 
@@ -56,5 +56,5 @@ digitsAnswer (NotDigit i) = record { answer = refused 3; place = i }
 digitsAnswer TooLong = record { answer = refused 1; place = 0 }
 
 -- n as k digits: 23 where no run of k digits that can be read stands for n
-unfoldable pub writeDigits : ℕ → ℕ → List ℕ → Outcome
+unfoldable pub writeDigits : ℕ → ℕ → List ℕ → Written
 writeDigits n k buffer = writing (leb k 19 && ltb n (10 ^ k)) (digits k n) buffer

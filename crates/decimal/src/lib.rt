@@ -5,7 +5,7 @@ ghost use mathlib.Core.Path.{_≡_};
 ghost use mathlib.Core.List.{_++_};
 ghost use Prim.Native.Nat.{_≤_, _^_};
 ghost use lib.ListN.{length, drop};
-ghost use Rattle.clock_time.specs.Writing.{outcome};
+ghost use Rattle.clock_time.specs.Writing.{written};
 ghost use Rattle.decimal.specs.Decimal.{isDigit, digits, digitPair, readDigits, digitsAnswer, writeDigits};
 
 // The number that a run of digits stands for; or the place of the first byte that is no digit; or more than 19 bytes.
@@ -73,7 +73,7 @@ fn fill_digits(number: u64, count: usize, out: &mut [u8])
 // Writes `number` as `count` digits to the front of `out`. Refuses with Unrepresentable (23) if it has more digits or
 // `count` is above 19, then with LentMemory (20) if there is no room.
 pub fn write_digits(number: u64, count: usize, out: &mut [u8]) -> WriteAnswer
-    ensures { λ r. ⌜ outcome r (now (out .exit)) ≡ writeDigits number count (now (out .entry)) ⌝ }
+    ensures { λ r. ⌜ written r (now (out .exit)) ≡ writeDigits number count (now (out .entry)) ⌝ }
 {
     if 19 < count {
         return WriteAnswer::Refused(Error::Unrepresentable);

@@ -9,9 +9,9 @@ use lib.IntN.{ℤ, pos, negsuc, natAbs}
 use borrow.Author.Tests.{leb-true, le-leb}
 use Rattle.clock_time.specs.Errors.{accepted}
 use Rattle.clock_time.specs.declared.ClockTime.{ClockTime}
+use Rattle.clock_time.specs.Lists.{slice}
 use Rattle.calendar.specs.UnixTime.{offsetInRange, isValid}
 use Rattle.calendar.proofs.ValidLaws.{valid}
-use Rattle.layout.specs.Layout.{run}
 use Rattle.meinberg_gps.specs.Gps.{gps, gpsFields, readGps}
 use Rattle.meinberg_gps.specs.declared.GpsTime.{GpsTime}
 use Rattle.gps_position.specs.Position.{Angle, latitude, longitude, angleSize, angleOf, positionOf}
@@ -60,7 +60,7 @@ unfolding readGps gps gpsFields positionOf
 position-holds s g h =
     let r = read-passes gps s g h in
     let f = faultless s (r .0 .position) in
-    let small = value-small (run 60 4 s) (f .stand .height-plain) in
+    let small = value-small (slice 60 4 s) (f .stand .height-plain) in
     rw (r .1)
     (record {
       latitude = angle-within latitude s (lit≤ tt) (range-limit latitude s (f .latitude-range));

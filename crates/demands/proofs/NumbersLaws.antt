@@ -13,7 +13,7 @@ use Rattle.clock_time.specs.Errors.{Answer, accepted, refused}
 use Rattle.clock_time.specs.Exit.{exit}
 use Rattle.clock_time.specs.Called.{counted, leaving}
 use Rattle.clock_time.specs.Faithful.{Faithful}
-use Rattle.clock_time.specs.Writing.{Outcome}
+use Rattle.clock_time.specs.Writing.{Written}
 use Rattle.clock_time.specs.declared.ClockTime.{ClockTime}
 use Rattle.clock_time.proofs.ErrorLaws.{apart}
 use Rattle.calendar.specs.Rules.{ValidReading}
@@ -57,7 +57,7 @@ numbered-23 false a k e = cc
 -- ---- writing by kind
 -- the same of a reading as of the value that it hands on
 handed-settled : {A : Type 0} {Accepts : List ℕ → A → Type 0} (say : A → Reading) (numbers : A → List ℤ)
-    → ((a : A) → readingNumbers (say a) ≡ numbers a) → {z : List ℤ} {d : List ℕ} {e : Outcome}
+    → ((a : A) → readingNumbers (say a) ≡ numbers a) → {z : List ℤ} {d : List ℕ} {e : Written}
     → Settled (λ s. (a : A) × (Accepts s a × (z ≡ numbers a))) d e
     → Settled (λ s. (r : Reading) × (Hands say (Accepts s) r × (z ≡ readingNumbers r))) d e
 handed-settled say numbers same =
@@ -68,7 +68,7 @@ handed-settled say numbers same =
 
 -- a format whose strings have no position
 module _
-    {Accepts : List ℕ → ClockTime → Type 0} {read : List ℕ → Answer ClockTime} (write : ClockTime → List ℕ → Outcome)
+    {Accepts : List ℕ → ClockTime → Type 0} {read : List ℕ → Answer ClockTime} (write : ClockTime → List ℕ → Written)
     (f : Faithful Accepts read write) (valid : (s : List ℕ) (t : ClockTime) → read s ≡ accepted t → isValid t ≡ true)
   where
     time-settled : (z : List ℤ) (d : List ℕ)

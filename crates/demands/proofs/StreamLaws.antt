@@ -66,6 +66,6 @@ module _ (state : List ℕ) (taken event : ℕ) (s : List ℕ) (limit : ℕ) whe
       rw (ap (λ (x : Exit (Unit {0}) FeedMemory). x .memory) (e .1)) (record {
         answer = feedOf (framerIn state) (take limit s) .answer;
         steps = rw (on .0, on .1) (framing.feed-by-steps (framerIn state) s limit);
-        event = states.event-tells state taken event s limit room;
+        event = states.event-says state taken event s limit room;
         bytes = states.feed-bytes state taken event s limit room;
       })

@@ -13,7 +13,7 @@ use Rattle.clock_time.specs.Errors.{Answer, accepted, refused, given}
 use Rattle.clock_time.specs.Exit.{exit}
 use Rattle.clock_time.specs.Called.{counted, leaving}
 use Rattle.clock_time.specs.Faithful.{Faithful}
-use Rattle.clock_time.specs.Writing.{Outcome}
+use Rattle.clock_time.specs.Writing.{Written}
 use Rattle.clock_time.proofs.ErrorLaws.{apart}
 use Rattle.demands.specs.Refusals.{RefusesAndKeeps}
 use Rattle.demands.specs.Lines.{writerLines}
@@ -21,14 +21,14 @@ use Rattle.demands.specs.Exactly.{WritesExactly, CallWritesExactly}
 use Rattle.demands.proofs.OrderLaws.{Decided, keeps}
 
 -- what is left of a buffer in each of three cases, and that there is no fourth
-pub record Settled (Reads : List ℕ → Type 0) (d : List ℕ) (e : Outcome) : Type 0 where
+pub record Settled (Reads : List ℕ → Type 0) (d : List ℕ) (e : Written) : Type 0 where
   pub written : (s : List ℕ) → Reads s → length s ≤ length d
       → e ≡ exit (accepted (length s)) (s ++ drop (length s) d)
   pub no-room : (s : List ℕ) → Reads s → length d < length s → e ≡ exit (refused 20) d
   pub unread : ((s : List ℕ) → Reads s → ⊥) → e ≡ exit (refused 23) d
   pub either : ((s : List ℕ) × Reads s) ⊎ ((s : List ℕ) → Reads s → ⊥)
 
-pub settled : {A : Type 0} {Accepts : List ℕ → A → Type 0} {read : List ℕ → Answer A} {write : A → List ℕ → Outcome}
+pub settled : {A : Type 0} {Accepts : List ℕ → A → Type 0} {read : List ℕ → Answer A} {write : A → List ℕ → Written}
     → Faithful Accepts read write → (a : A) (d : List ℕ) → Settled (λ s. Accepts s a) d (write a d)
 settled f a d =
     record {
@@ -41,7 +41,7 @@ settled f a d =
     }
 
 -- what says the same of every string settles the same
-pub settled-same : {R S : List ℕ → Type 0} {d : List ℕ} {e : Outcome} → ((s : List ℕ) → R s ↔ S s) → Settled R d e
+pub settled-same : {R S : List ℕ → Type 0} {d : List ℕ} {e : Written} → ((s : List ℕ) → R s ↔ S s) → Settled R d e
     → Settled S d e
 settled-same same w =
     record {
@@ -52,9 +52,9 @@ settled-same same w =
     }
 
 -- ---- the demands
-module _ {Reads : List ℕ → Type 0} {d : List ℕ} {e : Outcome} (w : Settled Reads d e) where
+module _ {Reads : List ℕ → Type 0} {d : List ℕ} {e : Written} (w : Settled Reads d e) where
   answered-by : {a : Answer ℕ} {m : List ℕ} → e ≡ exit a m → e .answer ≡ a
-  answered-by h = ap (λ (o : Outcome). o .answer) h
+  answered-by h = ap (λ (o : Written). o .answer) h
 
   with-room : (s : List ℕ) → Reads s → length s ≤ length d → Decided (writerLines Reads d) d e
   with-room s h room =
@@ -137,7 +137,7 @@ module _ {Reads : List ℕ → Type 0} {d : List ℕ} {e : Outcome} (w : Settled
 
 -- ---- from numbers
 module _
-    {A : Type 0} {Accepts : List ℕ → A → Type 0} (write : A → List ℕ → Outcome) (of : List ℤ → Answer A)
+    {A : Type 0} {Accepts : List ℕ → A → Type 0} (write : A → List ℕ → Written) (of : List ℤ → Answer A)
     (numbers : A → List ℤ)
     (each : (a : A) (d : List ℕ) → Settled (λ s. Accepts s a) d (write a d))
     (there : (z : List ℤ) (a : A) → of z ≡ accepted a → numbers a ≡ z)

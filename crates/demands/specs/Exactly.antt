@@ -8,7 +8,7 @@ use lib.IntN.{ℤ}
 use Rattle.clock_time.specs.Errors.{Answer, accepted, refused}
 use Rattle.clock_time.specs.Exit.{exit}
 use Rattle.clock_time.specs.Called.{Called, called}
-use Rattle.clock_time.specs.Writing.{Outcome}
+use Rattle.clock_time.specs.Writing.{Written}
 
 -- "A string or a DCF77 minute is accepted exactly when the rules in document 01 hold, and then every field, offset and
 -- flag is the one those rules give." (demand 2): `Accepts a` says that these rules hold, and that a is what they give
@@ -16,7 +16,7 @@ abbrev pub ReadsExactly : {A : Type 0} → (A → Type 0) → Answer A → Type 
 ReadsExactly {A} Accepts answer = (a : A) → (answer ≡ accepted a) ↔ Accepts a
 
 -- a writer's answer and the buffer at exit; `Reads s` says that s is accepted as what was to be written
-pub record WritesExactly (Reads : List ℕ → Type 0) (buffer : List ℕ) (e : Outcome) : Type 0 where
+pub record WritesExactly (Reads : List ℕ → Type 0) (buffer : List ℕ) (e : Written) : Type 0 where
   -- "Written back, an accepted reading gives the same bytes or marks." (demand 2), and nothing after them changes
   pub written-back : (s : List ℕ) → Reads s → length s ≤ length buffer
       → e ≡ exit (accepted (length s)) (s ++ drop (length s) buffer)

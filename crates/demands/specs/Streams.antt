@@ -7,7 +7,7 @@ use Rattle.framing.specs.Step.{FeedAnswer, complete}
 use Rattle.framing.specs.Feed.{feeding}
 use Rattle.framing.specs.Steps.{BySteps}
 use Rattle.feed_state.specs.Feed.{FeedMemory, framerIn, stateBytes}
-use Rattle.feed_state.specs.Event.{Tells}
+use Rattle.feed_state.specs.Event.{EventSays}
 use Rattle.listing.specs.declared.Listing.{Listing}
 use Rattle.listing.specs.Listing.{ListedInto, after, textOf}
 
@@ -20,7 +20,7 @@ FewBytes answer = (n : ℕ) → answer ≡ complete n → (1 ≤ n) × (n ≤ 66
 pub record CallFeeds (state s : List ℕ) (limit : ℕ) (left : FeedMemory) : Type 0 where
   pub answer : FeedAnswer
   pub steps : BySteps (framerIn state) s limit (feeding (framerIn (left .state)) answer (left .taken))
-  pub event : Tells (left .event) answer
+  pub event : EventSays (left .event) answer
   pub bytes : left .state ≡ stateBytes (framerIn (left .state)) ++ drop 68 state
 
 -- a call of the listing: the text of the bytes taken is at the front of the buffer, and nothing after it changes; it

@@ -15,7 +15,7 @@ ghost use mathlib.Core.List.{[], _∷_};
 ghost use lib.Dec.{leb, ltb};
 ghost use lib.ListN.{length};
 ghost use Rattle.clock_time.specs.Errors.{given, checked};
-ghost use Rattle.clock_time.specs.Writing.{outcome};
+ghost use Rattle.clock_time.specs.Writing.{written};
 ghost use Rattle.calendar.specs.UnixTime.{isValid};
 ghost use Rattle.decimal.specs.Decimal.{firstNonDigit, digits, digitsAnswer, readDigits, writeDigits};
 ghost use Rattle.layout.specs.Text.{clockChecks, readAnswer};
@@ -35,11 +35,11 @@ ghost use Rattle.demands.specs.Exactly.{ReadsExactly, WritesExactly};
 fn write_string(kind: u8, fields: &[i32], out: &mut [u8]) -> WriteAnswer
     ensures demand_1 { λ r. ⌜
         RefusesAndKeeps (writeLines kind (now (fields .entry)) (now (out .entry))) (1 ∷ 23 ∷ 20 ∷ []) (now (out .entry))
-        (outcome r (now (out .exit)))
+        (written r (now (out .exit)))
         ⌝ }
     ensures demand_2 { λ r. ⌜
         WritesExactly (λ s. AcceptsNumbers kind s (now (fields .entry))) (now (out .entry))
-        (outcome r (now (out .exit)))
+        (written r (now (out .exit)))
         ⌝ }
 {
     fields_writer::write_string(kind, fields, out)
@@ -48,11 +48,11 @@ fn write_string(kind: u8, fields: &[i32], out: &mut [u8]) -> WriteAnswer
 fn write_marks(fields: &[i32], out: &mut [u8]) -> WriteAnswer
     ensures demand_1 { λ r. ⌜
         RefusesAndKeeps (writerLines (λ m. AcceptsMinuteNumbers m (now (fields .entry))) (now (out .entry)))
-        (23 ∷ 20 ∷ []) (now (out .entry)) (outcome r (now (out .exit)))
+        (23 ∷ 20 ∷ []) (now (out .entry)) (written r (now (out .exit)))
         ⌝ }
     ensures demand_2 { λ r. ⌜
         WritesExactly (λ m. AcceptsMinuteNumbers m (now (fields .entry))) (now (out .entry))
-        (outcome r (now (out .exit)))
+        (written r (now (out .exit)))
         ⌝ }
 {
     fields_writer::write_marks(fields, out)
@@ -132,9 +132,9 @@ fn write_digits(number: u64, count: usize, out: &mut [u8]) -> WriteAnswer
         (given 23 (not (leb count 19 && ltb number (10 ^ count)))
         ∷ given 20 (ltb (length (now (out .entry))) (length (digits count number)))
         ∷ []))
-        (23 ∷ 20 ∷ []) (now (out .entry)) (outcome r (now (out .exit)))
+        (23 ∷ 20 ∷ []) (now (out .entry)) (written r (now (out .exit)))
         ⌝ }
-    ensures answer { λ r. ⌜ outcome r (now (out .exit)) ≡ writeDigits number count (now (out .entry)) ⌝ }
+    ensures answer { λ r. ⌜ written r (now (out .exit)) ≡ writeDigits number count (now (out .entry)) ⌝ }
 {
     decimal::write_digits(number, count, out)
 }
@@ -143,9 +143,9 @@ fn write_line(t: ClockTime, out: &mut [u8]) -> WriteAnswer
     ensures demand_1 { λ r. ⌜
         RefusesAndKeeps
         (tests (given 23 (not (isValid t)) ∷ given 20 (ltb (length (now (out .entry))) (length (lineOf t))) ∷ []))
-        (23 ∷ 20 ∷ []) (now (out .entry)) (outcome r (now (out .exit)))
+        (23 ∷ 20 ∷ []) (now (out .entry)) (written r (now (out .exit)))
         ⌝ }
-    ensures answer { λ r. ⌜ outcome r (now (out .exit)) ≡ writeLine t (now (out .entry)) ⌝ }
+    ensures answer { λ r. ⌜ written r (now (out .exit)) ≡ writeLine t (now (out .entry)) ⌝ }
 {
     listing_lines::write_line(t, out)
 }
@@ -153,9 +153,9 @@ fn write_line(t: ClockTime, out: &mut [u8]) -> WriteAnswer
 fn write_totals(t: Totals, out: &mut [u8]) -> WriteAnswer
     ensures demand_1 { λ r. ⌜
         RefusesAndKeeps
-        (tests (given 20 (ltb (length (now (out .entry))) (length (totalsLine t))) ∷ [])) (20 ∷ []) (now (out .entry)) (outcome r (now (out .exit)))
+        (tests (given 20 (ltb (length (now (out .entry))) (length (totalsLine t))) ∷ [])) (20 ∷ []) (now (out .entry)) (written r (now (out .exit)))
         ⌝ }
-    ensures answer { λ r. ⌜ outcome r (now (out .exit)) ≡ writeTotals t (now (out .entry)) ⌝ }
+    ensures answer { λ r. ⌜ written r (now (out .exit)) ≡ writeTotals t (now (out .entry)) ⌝ }
 {
     listing_lines::write_totals(t, out)
 }

@@ -3,7 +3,7 @@ use clock_time::WriteAnswer;
 use dcf77::MinuteAnswer;
 use dcf77::MinuteTime;
 ghost use mathlib.Core.List.{[], _∷_};
-ghost use Rattle.clock_time.specs.Writing.{outcome};
+ghost use Rattle.clock_time.specs.Writing.{written};
 ghost use Rattle.dcf77.specs.Accepts.{AcceptsMinute};
 ghost use Rattle.dcf77.specs.Lines.{minuteLines};
 ghost use Rattle.dcf77.specs.Minute.{minuteAnswer};
@@ -22,10 +22,10 @@ fn read_minute(m: &[u8]) -> MinuteAnswer
 fn write_minute(a: MinuteTime, out: &mut [u8]) -> WriteAnswer
     ensures demand_1 { λ r. ⌜
         RefusesAndKeeps (writerLines (λ m. AcceptsMinute m a) (now (out .entry))) (23 ∷ 20 ∷ []) (now (out .entry))
-        (outcome r (now (out .exit)))
+        (written r (now (out .exit)))
         ⌝ }
     ensures demand_2 { λ r. ⌜
-        WritesExactly (λ m. AcceptsMinute m a) (now (out .entry)) (outcome r (now (out .exit)))
+        WritesExactly (λ m. AcceptsMinute m a) (now (out .entry)) (written r (now (out .exit)))
         ⌝ }
 {
     dcf77_writer::write_minute(a, out)

@@ -8,7 +8,7 @@ use time_string::Kind;
 use time_string::KindAnswer;
 use time_string::TimeAnswer;
 ghost use mathlib.Core.List.{[], _∷_};
-ghost use Rattle.clock_time.specs.Writing.{outcome};
+ghost use Rattle.clock_time.specs.Writing.{written};
 ghost use Rattle.layout.specs.Text.{readAnswer};
 ghost use Rattle.meinberg_standard.specs.Accepts.{AcceptsStandard};
 ghost use Rattle.meinberg_standard.specs.Lines.{standardLines};
@@ -70,10 +70,10 @@ fn read_elv(s: &[u8]) -> ReadAnswer
 fn write_standard(t: ClockTime, out: &mut [u8]) -> WriteAnswer
     ensures demand_1 { λ r. ⌜
         RefusesAndKeeps (writerLines (λ s. AcceptsStandard s t) (now (out .entry))) (23 ∷ 20 ∷ []) (now (out .entry))
-        (outcome r (now (out .exit)))
+        (written r (now (out .exit)))
         ⌝ }
     ensures demand_2 { λ r. ⌜
-        WritesExactly (λ s. AcceptsStandard s t) (now (out .entry)) (outcome r (now (out .exit)))
+        WritesExactly (λ s. AcceptsStandard s t) (now (out .entry)) (written r (now (out .exit)))
         ⌝ }
 {
     meinberg_standard_writer::write_standard(t, out)
@@ -82,10 +82,10 @@ fn write_standard(t: ClockTime, out: &mut [u8]) -> WriteAnswer
 fn write_pzf(t: ClockTime, out: &mut [u8]) -> WriteAnswer
     ensures demand_1 { λ r. ⌜
         RefusesAndKeeps (writerLines (λ s. AcceptsPzf s t) (now (out .entry))) (23 ∷ 20 ∷ []) (now (out .entry))
-        (outcome r (now (out .exit)))
+        (written r (now (out .exit)))
         ⌝ }
     ensures demand_2 { λ r. ⌜
-        WritesExactly (λ s. AcceptsPzf s t) (now (out .entry)) (outcome r (now (out .exit)))
+        WritesExactly (λ s. AcceptsPzf s t) (now (out .entry)) (written r (now (out .exit)))
         ⌝ }
 {
     meinberg_pzf_writer::write_pzf(t, out)
@@ -94,10 +94,10 @@ fn write_pzf(t: ClockTime, out: &mut [u8]) -> WriteAnswer
 fn write_gps(g: GpsTime, out: &mut [u8]) -> WriteAnswer
     ensures demand_1 { λ r. ⌜
         RefusesAndKeeps (writerLines (λ s. AcceptsGps s g) (now (out .entry))) (23 ∷ 20 ∷ []) (now (out .entry))
-        (outcome r (now (out .exit)))
+        (written r (now (out .exit)))
         ⌝ }
     ensures demand_2 { λ r. ⌜
-        WritesExactly (λ s. AcceptsGps s g) (now (out .entry)) (outcome r (now (out .exit)))
+        WritesExactly (λ s. AcceptsGps s g) (now (out .entry)) (written r (now (out .exit)))
         ⌝ }
 {
     meinberg_gps_writer::write_gps(g, out)
@@ -106,10 +106,10 @@ fn write_gps(g: GpsTime, out: &mut [u8]) -> WriteAnswer
 fn write_elv(t: ClockTime, out: &mut [u8]) -> WriteAnswer
     ensures demand_1 { λ r. ⌜
         RefusesAndKeeps (writerLines (λ s. AcceptsElv s t) (now (out .entry))) (23 ∷ 20 ∷ []) (now (out .entry))
-        (outcome r (now (out .exit)))
+        (written r (now (out .exit)))
         ⌝ }
     ensures demand_2 { λ r. ⌜
-        WritesExactly (λ s. AcceptsElv s t) (now (out .entry)) (outcome r (now (out .exit)))
+        WritesExactly (λ s. AcceptsElv s t) (now (out .entry)) (written r (now (out .exit)))
         ⌝ }
 {
     elv_dcf7000_writer::write_elv(t, out)

@@ -15,6 +15,7 @@ use Rattle.clock_time.specs.Same.{eqℤ, sameFields, sameTime}
 use Rattle.clock_time.specs.declared.ClockTime.{ClockTime}
 use Rattle.clock_time.proofs.SameLaws.{eqℤ-refl, eqb-refl, beq-refl, beq-true, sameTime-true}
 use Rattle.clock_time.proofs.Tests.{both, below-at}
+use Rattle.clock_time.specs.Lists.{ascii}
 use Rattle.gregorian.specs.Date.{dateExists, fullYear, supportedDate, weekdayNumber, weekdayOrZero}
 use Rattle.calendar.specs.TimeOfDay.{timeExists}
 use Rattle.calendar.specs.UnixTime.{isValid}
@@ -22,7 +23,6 @@ use Rattle.calendar.proofs.ValidLaws.{zone-in-range}
 use Rattle.gregorian.proofs.DateLaws.{supported-exists}
 use Rattle.decimal.specs.Decimal.{digits, value, valueFrom}
 use Rattle.decimal.proofs.DecimalLaws.{digit-range, digit-written, value-digits}
-use Rattle.layout.specs.Ascii.{ascii}
 use Rattle.layout.specs.Layout.{allowed, fitsFrom, FitsLayout, number}
 use Rattle.layout.specs.Text.{clockChecks}
 use Rattle.layout.proofs.LayoutLaws.{tested-fits, digit-place}

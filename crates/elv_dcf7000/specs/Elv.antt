@@ -6,11 +6,11 @@ use lib.Dec.{eqb, ltb}
 use lib.IntN.{ℤ, pos}
 use Rattle.clock_time.specs.Errors.{Answer}
 use Rattle.clock_time.specs.Same.{eqℤ}
-use Rattle.clock_time.specs.Writing.{Outcome}
+use Rattle.clock_time.specs.Writing.{Written}
 use Rattle.clock_time.specs.declared.ClockTime.{ClockTime}
+use Rattle.clock_time.specs.Lists.{ascii}
 use Rattle.gregorian.specs.Date.{fullYear, weekdayOrZero}
 use Rattle.decimal.specs.Decimal.{digits}
-use Rattle.layout.specs.Ascii.{ascii}
 use Rattle.layout.specs.Layout.{digit, places, number}
 use Rattle.layout.specs.Text.{Format, clockFormat, readText, writeText}
 
@@ -124,5 +124,5 @@ unfoldable pub readElv : List ℕ → Answer ClockTime
 readElv s = readText elv s
 
 -- the writer, by the rule for every time string
-unfoldable pub writeElv : ClockTime → List ℕ → Outcome
+unfoldable pub writeElv : ClockTime → List ℕ → Written
 writeElv t buffer = writeText elv t buffer

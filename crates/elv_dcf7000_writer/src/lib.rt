@@ -2,7 +2,7 @@
 use clock_time::ClockTime;
 use clock_time::WriteAnswer;
 ghost use mathlib.Core.Path.{_≡_};
-ghost use Rattle.clock_time.specs.Writing.{outcome};
+ghost use Rattle.clock_time.specs.Writing.{written};
 ghost use Rattle.elv_dcf7000.specs.Elv.{flagSum, lineWith, elvText, elvRepresentable, writeElv};
 
 fn flag_sum(summer: bool, change: bool, unsynchronised: bool) -> u8
@@ -61,7 +61,7 @@ fn is_representable(t: ClockTime) -> bool
 // Writes a clock time as an ELV DCF7000 string to the front of `out`. Refuses with Unrepresentable (23) if no such
 // string is read as it, then with LentMemory (20) if there is no room for 21 bytes.
 pub fn write_elv(t: ClockTime, out: &mut [u8]) -> WriteAnswer
-    ensures { λ r. ⌜ outcome r (now (out .exit)) ≡ writeElv t (now (out .entry)) ⌝ }
+    ensures { λ r. ⌜ written r (now (out .exit)) ≡ writeElv t (now (out .entry)) ⌝ }
 {
     let line = text_of(t);
     let representable = calendar::unix_time::is_valid(t) & is_representable(t);

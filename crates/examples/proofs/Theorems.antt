@@ -2,12 +2,12 @@
 use mathlib.Core.Path.{refl}
 use mathlib.Core.List.{Option·toList}
 use Rattle.clock_time.specs.Same.{eqℤ}
+use Rattle.clock_time.specs.Lists.{ascii}
 use Rattle.gregorian.specs.Date.{isLeapYear, monthLengths, daysInMonth, dateExists, fullYear, supportedDate, daysOfYears}
 use Rattle.gregorian.specs.Date.{daysBeforeMonth, daysSinceEpoch}
 use Rattle.calendar.specs.TimeOfDay.{modulo, utcMinute, timeExists}
 use Rattle.calendar.specs.UnixTime.{offsetInRange, isValid, instantOf, unixTime}
 use Rattle.decimal.specs.Decimal.{isDigit, valueFrom}
-use Rattle.layout.specs.Ascii.{ascii}
 use Rattle.layout.specs.Layout.{allowed, errorAt, offence, first}
 use Rattle.layout.specs.Text.{clockChecks, textChecks, readText}
 use Rattle.signed.specs.Signed.{signed, signHolds}

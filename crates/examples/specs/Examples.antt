@@ -8,8 +8,8 @@ use lib.ListN.{length, replicate, set}
 use Rattle.clock_time.specs.declared.Error.{Error}
 use Rattle.clock_time.specs.declared.ClockTime.{ClockTime}
 use Rattle.clock_time.specs.Errors.{Answer, accepted, refused}
+use Rattle.clock_time.specs.Lists.{ascii}
 use Rattle.calendar.specs.UnixTime.{unixTime}
-use Rattle.layout.specs.Ascii.{ascii}
 use Rattle.meinberg_gps.specs.Gps.{readGps}
 use Rattle.meinberg_gps.specs.declared.GpsTime.{GpsTime}
 use Rattle.dcf77.specs.Minute.{readMinute}

@@ -5,7 +5,7 @@ use mathlib.Core.Path.{_≡_, refl, ap}
 use Rattle.framing.specs.Step.{FeedAnswer, nothingYet, complete, dropped}
 use Rattle.framing.proofs.StepLaws.{nothing-complete, dropped-complete}
 use Rattle.feed_state.specs.Feed.{eventNumber}
-use Rattle.feed_state.specs.Event.{Tells}
+use Rattle.feed_state.specs.Event.{EventSays}
 
 nothing-dropped : {A : Type 0} → nothingYet ≡ dropped → A
 nothing-dropped e = let z : _≡_ {A = ℕ} 0 1 = cc in absurd (omega arith)
@@ -19,21 +19,21 @@ complete-nothing e = let z : _≡_ {A = ℕ} 0 1 = cc in absurd (omega arith)
 complete-dropped : {A : Type 0} {m : ℕ} → complete m ≡ dropped → A
 complete-dropped e = let z : _≡_ {A = ℕ} 0 1 = cc in absurd (omega arith)
 
-pub number-tells : (a : FeedAnswer) → ((n : ℕ) → a ≡ complete n → (1 ≤ n) × (n ≤ 66)) → Tells (eventNumber a) a
-number-tells nothingYet size =
+pub number-says : (a : FeedAnswer) → ((n : ℕ) → a ≡ complete n → (1 ≤ n) × (n ≤ 66)) → EventSays (eventNumber a) a
+number-says nothingYet size =
     record {
       nothing = (λ e. refl, λ e. refl);
       string = λ n. (λ h. absurd (omega arith), nothing-complete);
       overlong = (λ e. absurd (omega arith), nothing-dropped);
     }
-number-tells (complete m) size =
+number-says (complete m) size =
     let h = size m refl in
     record {
       nothing = (λ e. absurd (omega arith), complete-nothing);
       string = λ n. (λ w. ap complete (w .2), λ e. let q : m ≡ n = cc in (omega arith, omega arith, q));
       overlong = (λ e. absurd (omega arith), complete-dropped);
     }
-number-tells dropped size =
+number-says dropped size =
     record {
       nothing = (λ e. absurd (omega arith), dropped-nothing);
       string = λ n. (λ h. absurd (omega arith), dropped-complete);

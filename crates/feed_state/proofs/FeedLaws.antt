@@ -9,7 +9,7 @@ use lib.ListN.{length, getD, take, drop, set, length-append, length-set}
 use lib.Seq.{append-snoc, drop-cons, drop-length, set-at}
 use borrow.Author.Tests.{le-ltb}
 use Rattle.clock_time.specs.declared.WriteAnswer.{WriteAnswer}
-use Rattle.clock_time.specs.Writing.{Outcome, outcome, writing}
+use Rattle.clock_time.specs.Writing.{Written, written, writing}
 use Rattle.clock_time.proofs.WritingLaws.{writing-room}
 use Rattle.framing.specs.declared.Mode.{Mode}
 use Rattle.framing.specs.declared.Mode.the-variants.{Outside, Inside, Overlong}
@@ -95,11 +95,11 @@ unfolding framerIn
 state-small state h = omega arith
 
 -- ---- bytes written whole, and to the front
-pub written-front : (r : WriteAnswer) (x s d : List ℕ) → length s ≤ length d → outcome r x ≡ writing true s d
+pub written-front : (r : WriteAnswer) (x s d : List ℕ) → length s ≤ length d → written r x ≡ writing true s d
     → x ≡ s ++ drop (length s) d
-written-front r x s d h e = ap (λ (o : Outcome). o .memory) (e ∙ sym (writing-room s d h))
+written-front r x s d h e = ap (λ (o : Written). o .memory) (e ∙ sym (writing-room s d h))
 
-pub written-whole : (r : WriteAnswer) (x s d : List ℕ) → length s ≡ length d → outcome r x ≡ writing true s d → x ≡ s
+pub written-whole : (r : WriteAnswer) (x s d : List ℕ) → length s ≡ length d → written r x ≡ writing true s d → x ≡ s
 written-whole r x s d h e =
     written-front r x s d (omega (arith, h)) e ∙ rw (h, drop-length d, append-nil s)
 

@@ -8,9 +8,9 @@ use Rattle.framing.specs.Step.{start}
 use Rattle.framing.specs.Feed.{feedOf}
 use Rattle.feed_state.specs.Feed.{framerIn, stateBytes, eventNumber, feedMemory, feedInto}
 use Rattle.framing.proofs.Theorems.{feed-complete}
-use Rattle.feed_state.specs.Event.{Tells}
+use Rattle.feed_state.specs.Event.{EventSays}
 use Rattle.feed_state.proofs.StateLaws as state
-use Rattle.feed_state.proofs.EventLaws.{number-tells}
+use Rattle.feed_state.proofs.EventLaws.{number-says}
 use Rattle.feed_state.proofs.GoesOnLaws as goes
 
 -- 68 zero bytes are the state before the first byte
@@ -38,9 +38,9 @@ feed-bytes = goes.feed-bytes
 
 -- what the call leaves behind `event` tells C, from any state, what the last byte taken ended: 0 nothing, 1 to 66 a
 -- complete string of so many bytes, 255 an overlong one
-pub event-tells : (state : List ℕ) (taken event : ℕ) (s : List ℕ) (limit : ℕ) → 68 ≤ length state
-    → Tells (feedInto (feedMemory state taken event) s limit .memory .event)
+pub event-says : (state : List ℕ) (taken event : ℕ) (s : List ℕ) (limit : ℕ) → 68 ≤ length state
+    → EventSays (feedInto (feedMemory state taken event) s limit .memory .event)
     (feedOf (framerIn state) (take limit s) .answer)
-event-tells state taken event s limit room =
+event-says state taken event s limit room =
     rw (feed-goes-on state taken event s limit room .2)
-    (number-tells _ (feed-complete (framerIn state) (take limit s)))
+    (number-says _ (feed-complete (framerIn state) (take limit s)))

@@ -6,13 +6,13 @@ use dcf77::MinuteAnswer;
 use layout::ReadAnswer;
 use meinberg_gps::GpsAnswer;
 ghost use mathlib.Core.Path.{_≡_};
-ghost use Rattle.clock_time.specs.Writing.{outcome};
+ghost use Rattle.clock_time.specs.Writing.{written};
 ghost use Rattle.time_string.specs.declared.Kind.{Kind};
 ghost use Rattle.fields_writer.specs.Writers.{writeTime, writePlain, writeAs, writeFrom, writeMinuteFrom};
 
 // Writes a clock time as a string of kind 0 or 1, or of kind 3 for any other number.
 fn write_time(kind: u8, t: ClockTime, out: &mut [u8]) -> WriteAnswer
-    ensures { λ r. ⌜ outcome r (now (out .exit)) ≡ writeTime kind t (now (out .entry)) ⌝ }
+    ensures { λ r. ⌜ written r (now (out .exit)) ≡ writeTime kind t (now (out .entry)) ⌝ }
 {
     if kind == 0 {
         return meinberg_standard_writer::write_standard(t, out);
@@ -24,7 +24,7 @@ fn write_time(kind: u8, t: ClockTime, out: &mut [u8]) -> WriteAnswer
 }
 
 fn write_plain(kind: u8, fields: &[i32], out: &mut [u8]) -> WriteAnswer
-    ensures { λ r. ⌜ outcome r (now (out .exit)) ≡ writePlain kind (now (fields .entry)) (now (out .entry)) ⌝ }
+    ensures { λ r. ⌜ written r (now (out .exit)) ≡ writePlain kind (now (fields .entry)) (now (out .entry)) ⌝ }
 {
     match clock_fields::time_of(fields) {
         ReadAnswer::Read(t) => write_time(kind, t, out),
@@ -33,7 +33,7 @@ fn write_plain(kind: u8, fields: &[i32], out: &mut [u8]) -> WriteAnswer
 }
 
 fn write_gps(fields: &[i32], out: &mut [u8]) -> WriteAnswer
-    ensures { λ r. ⌜ outcome r (now (out .exit)) ≡ writeAs Kind.Gps (now (fields .entry)) (now (out .entry)) ⌝ }
+    ensures { λ r. ⌜ written r (now (out .exit)) ≡ writeAs Kind.Gps (now (fields .entry)) (now (out .entry)) ⌝ }
 {
     match clock_fields::gps_of(fields) {
         GpsAnswer::Read(g) => meinberg_gps_writer::write_gps(g, out),
@@ -45,7 +45,7 @@ fn write_gps(fields: &[i32], out: &mut [u8]) -> WriteAnswer
 // none, with Unrepresentable (23) if no such string is read as the numbers, then with LentMemory (20) if there is no
 // room.
 pub fn write_string(kind: u8, fields: &[i32], out: &mut [u8]) -> WriteAnswer
-    ensures { λ r. ⌜ outcome r (now (out .exit)) ≡ writeFrom kind (now (fields .entry)) (now (out .entry)) ⌝ }
+    ensures { λ r. ⌜ written r (now (out .exit)) ≡ writeFrom kind (now (fields .entry)) (now (out .entry)) ⌝ }
 {
     if 3 < kind {
         return WriteAnswer::Refused(Error::Length);
@@ -59,7 +59,7 @@ pub fn write_string(kind: u8, fields: &[i32], out: &mut [u8]) -> WriteAnswer
 // Writes numbers as a run of marks to the front of `out`. Refuses with Unrepresentable (23) if no run is read as the
 // numbers, then with LentMemory (20) if there is no room.
 pub fn write_marks(fields: &[i32], out: &mut [u8]) -> WriteAnswer
-    ensures { λ r. ⌜ outcome r (now (out .exit)) ≡ writeMinuteFrom (now (fields .entry)) (now (out .entry)) ⌝ }
+    ensures { λ r. ⌜ written r (now (out .exit)) ≡ writeMinuteFrom (now (fields .entry)) (now (out .entry)) ⌝ }
 {
     match clock_fields::minute_of(fields) {
         MinuteAnswer::Read(a) => dcf77_writer::write_minute(a, out),

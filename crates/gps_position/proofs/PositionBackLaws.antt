@@ -6,10 +6,9 @@ use mathlib.Core.Bool.{true, false}
 use mathlib.Core.List.{List, [], _∷_, _++_}
 use lib.Dec.{eqb}
 use lib.ListN.{length, getD}
+use Rattle.clock_time.specs.Lists.{ascii, slice}
 use Rattle.decimal.specs.Decimal.{value}
 use Rattle.decimal.proofs.DecimalLaws.{valueFrom-append}
-use Rattle.layout.specs.Ascii.{ascii}
-use Rattle.layout.specs.Layout.{run}
 use Rattle.signed.proofs.SignedLaws.{signed-size, sign-back}
 use Rattle.gps_position.specs.Position.{Angle, latitude, longitude, wholePart, decimals, hemisphere, angleSize}
 use Rattle.gps_position.specs.Position.{inRange, positionFault, angleOf, positionOf, angleBytes, angleText}
@@ -36,7 +35,7 @@ angle-back a s long d r =
 
 -- the bytes of a string at the places of its position, with the layout's own between them
 abbrev pub positionAt : List ℕ → List ℕ
-positionAt s = angleAt latitude s ++ ascii " " ++ angleAt longitude s ++ ascii " " ++ run 60 4 s
+positionAt s = angleAt latitude s ++ ascii " " ++ angleAt longitude s ++ ascii " " ++ slice 60 4 s
 
 pub position-back : (s : List ℕ) → positionFault s ≡ false → positionText (positionOf s) ≡ positionAt s
 unfolding positionText positionOf
@@ -45,5 +44,5 @@ position-back s h =
     rw (
       angle-back latitude s refl (f .stand .latitude-digits) (f .latitude-range),
       angle-back longitude s refl (f .stand .longitude-digits) (f .longitude-range),
-      aligned-back (run 60 4 s) (f .stand .height-aligned),
+      aligned-back (slice 60 4 s) (f .stand .height-aligned),
     )

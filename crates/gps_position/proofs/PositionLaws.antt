@@ -10,7 +10,8 @@ use borrow.Author.Tests.{le-leb, not-false}
 use Rattle.clock_time.specs.Errors.{Answer, refused}
 use Rattle.clock_time.specs.declared.Position.{Position}
 use Rattle.clock_time.proofs.Tests.{both}
-use Rattle.layout.specs.Layout.{run, number}
+use Rattle.clock_time.specs.Lists.{slice}
+use Rattle.layout.specs.Layout.{number}
 use Rattle.gps_position.specs.Aligned.{areDigits, rightAligned, digitsOrBlanks}
 use Rattle.gps_position.specs.Position.{Angle, latitude, longitude, wholePart, decimals, angleDigits}
 use Rattle.gps_position.specs.Position.{positionDigits, hemisphere, angleSize, inRange, positionFault}
@@ -39,19 +40,19 @@ digits-of a s h =
 pub record DigitsStand (s : List ℕ) : Type 0 where
   pub latitude-digits : DigitsOf latitude s
   pub longitude-digits : DigitsOf longitude s
-  pub height-aligned : rightAligned (run 60 4 s) ≡ true
-  pub height-plain : digitsOrBlanks (run 60 4 s) ≡ true
+  pub height-aligned : rightAligned (slice 60 4 s) ≡ true
+  pub height-plain : digitsOrBlanks (slice 60 4 s) ≡ true
 
 pub position-digits : (s : List ℕ) → positionDigits s ≡ true → DigitsStand s
 unfolding positionDigits
 position-digits s h =
-    let w = both (angleDigits latitude s && angleDigits longitude s) (rightAligned (run 60 4 s)) h in
+    let w = both (angleDigits latitude s && angleDigits longitude s) (rightAligned (slice 60 4 s)) h in
     let v = both (angleDigits latitude s) (angleDigits longitude s) (w .0) in
     record {
       latitude-digits = digits-of latitude s (v .0);
       longitude-digits = digits-of longitude s (v .1);
       height-aligned = w .1;
-      height-plain = aligned-plain (run 60 4 s) (w .1);
+      height-plain = aligned-plain (slice 60 4 s) (w .1);
     }
 
 -- ---- what was read, or 9
@@ -103,7 +104,7 @@ pub position-representable : (s : List ℕ) → positionFault s ≡ false → po
 unfolding positionRepresentable positionOf angleOf
 position-representable s h =
     let f = faultless s h in
-    let high : number 4 60 s ≤ 9999 = omega (arith, value-small (run 60 4 s) (f .stand .height-plain)) in
+    let high : number 4 60 s ≤ 9999 = omega (arith, value-small (slice 60 4 s) (f .stand .height-plain)) in
     simp (
       signed-size,
       le-leb _ _ (range-limit latitude s (f .latitude-range)),

@@ -11,10 +11,10 @@ use lib.IntN.{ℤ, natAbs}
 use borrow.Author.Tests.{leb-true}
 use Rattle.clock_time.specs.declared.Position.{Position}
 use Rattle.clock_time.proofs.Tests.{both}
+use Rattle.clock_time.specs.Lists.{ascii, slice}
 use Rattle.decimal.specs.Decimal.{digits}
 use Rattle.decimal.proofs.DecimalLaws.{valueFrom-append}
-use Rattle.layout.specs.Ascii.{ascii}
-use Rattle.layout.specs.Layout.{run, number}
+use Rattle.layout.specs.Layout.{number}
 use Rattle.signed.specs.Signed.{signByte}
 use Rattle.signed.proofs.SignedLaws.{sign-read, sign-written}
 use Rattle.gps_position.specs.Aligned.{padded, aligned}
@@ -55,30 +55,30 @@ angle-read a some room differ z small s h =
 -- the code's bytes, one by one: latitude is written with a third place before its point, which is left out
 pub position-parts : (p : Position) {x y : ℤ} {n e h : List ℕ} → n ≡ angleBytes 3 (code "N") (code "S") x
     → e ≡ angleText longitude y → h ≡ aligned 4 (p .height) → x ≡ p .latitude → y ≡ p .longitude
-    → run 1 8 n ++ ascii " " ++ run 0 9 e ++ ascii " " ++ run 0 4 h ≡ positionText p
+    → slice 1 8 n ++ ascii " " ++ slice 0 9 e ++ ascii " " ++ slice 0 4 h ≡ positionText p
 unfolding positionText angleBytes aligned padded digits ascii
 position-parts p a b c north east = rw (a, b, c, north, east)
 
-module _ (p : Position) (s : List ℕ) (e : run 41 23 s ≡ positionText p) where
+module _ (p : Position) (s : List ℕ) (e : slice 41 23 s ≡ positionText p) where
   latitude-holds : Holds latitude (p .latitude) s
   unfolding positionText angleBytes aligned padded digits ascii
   latitude-holds =
-      record { whole = λ i. run 0 2 (e i); after = λ i. run 3 4 (e i); letter = λ i. getD (e i) 7 0 }
+      record { whole = λ i. slice 0 2 (e i); after = λ i. slice 3 4 (e i); letter = λ i. getD (e i) 7 0 }
 
   longitude-holds : Holds longitude (p .longitude) s
   unfolding positionText angleBytes aligned padded digits ascii
   longitude-holds =
-      record { whole = λ i. run 9 3 (e i); after = λ i. run 13 4 (e i); letter = λ i. getD (e i) 17 0 }
+      record { whole = λ i. slice 9 3 (e i); after = λ i. slice 13 4 (e i); letter = λ i. getD (e i) 17 0 }
 
-  height-holds : run 60 4 s ≡ aligned 4 (p .height)
+  height-holds : slice 60 4 s ≡ aligned 4 (p .height)
   unfolding positionText angleBytes aligned padded digits ascii
-  height-holds i = run 19 4 (e i)
+  height-holds i = slice 19 4 (e i)
 
 pub record PositionRead (p : Position) (s : List ℕ) : Type 0 where
   pub faultless : positionFault s ≡ false
   pub same : positionOf s ≡ p
 
-pub position-read : (p : Position) → positionRepresentable p ≡ true → (s : List ℕ) → run 41 23 s ≡ positionText p
+pub position-read : (p : Position) → positionRepresentable p ≡ true → (s : List ℕ) → slice 41 23 s ≡ positionText p
     → PositionRead p s
 unfolding positionRepresentable positionFault positionDigits positionOf
 position-read p h s e =

@@ -10,9 +10,10 @@ use mathlib.Core.List.{List}
 use lib.ListN.{getD}
 use borrow.Author.Tests.{le-leb}
 use Rattle.clock_time.proofs.Tests.{both}
+use Rattle.clock_time.specs.Lists.{slice}
 use Rattle.decimal.specs.Decimal.{isDigit, valueFrom}
 use Rattle.decimal.proofs.DecimalLaws.{digit-range}
-use Rattle.layout.specs.Layout.{run, number}
+use Rattle.layout.specs.Layout.{number}
 use Rattle.signed.proofs.SignedLaws.{SignRules, sign-exactly}
 use Rattle.gps_position.specs.Aligned.{areDigits, rightAligned}
 use Rattle.gps_position.specs.Position.{latitude, longitude, angleSize}
@@ -28,19 +29,19 @@ digit-stands : (b : ℕ) → (isDigit b ≡ true) ↔ ((48 ≤ b) × (b ≤ 57))
 unfolding isDigit
 digit-stands b = (λ h. let r = digit-range b h in (r .0, r .1), λ r. simp (le-leb 48 b (r .0), le-leb b 57 (r .1)))
 
-digits-stand : (s : List ℕ) (n first end : ℕ) → end ≡ first + n → areDigits (run first (suc n) s) ≡ true
+digits-stand : (s : List ℕ) (n first end : ℕ) → end ≡ first + n → areDigits (slice first (suc n) s) ≡ true
     → DigitsAt s first end
 unfolding areDigits
 digits-stand s zero first end e h i lo hi =
     let same : i ≡ first = omega arith in
     rw same (digit-stands (getD s first 0) .0 (both (isDigit (getD s first 0)) true h .0))
 digits-stand s (suc n) first end e h i lo hi =
-    let w = both (isDigit (getD s first 0)) (areDigits (run (suc first) (suc n) s)) h in
+    let w = both (isDigit (getD s first 0)) (areDigits (slice (suc first) (suc n) s)) h in
     by-cases (ℕ-discrete i first) (λ same. rw same (digit-stands (getD s first 0) .0 (w .0))) λ other.
     digits-stand s n (suc first) end (omega (arith, e)) (w .1) i (omega (arith, lo, other)) hi
 
 stand-digits : (s : List ℕ) (n first end : ℕ) → end ≡ first + n → DigitsAt s first end
-    → areDigits (run first (suc n) s) ≡ true
+    → areDigits (slice first (suc n) s) ≡ true
 unfolding areDigits
 stand-digits s zero first end e d =
     simp (digit-stands (getD s first 0) .1 (d first (omega arith) (omega (arith, e))))
@@ -51,7 +52,7 @@ stand-digits s (suc n) first end e d =
     )
 
 -- ---- whole parts
-aligned-whole : (s : List ℕ) (n first end : ℕ) → end ≡ first + n → rightAligned (run first (suc n) s) ≡ true
+aligned-whole : (s : List ℕ) (n first end : ℕ) → end ≡ first + n → rightAligned (slice first (suc n) s) ≡ true
     → WholePart s first end
 unfolding rightAligned areDigits
 aligned-whole s zero first end e h =
@@ -66,7 +67,7 @@ aligned-whole s zero first end e h =
 aligned-whole s (suc n) first end e h =
     ⊎-elim (λ w. after (w .0) (aligned-whole s n (suc first) end (omega (arith, e)) (w .1)))
     (λ w. here (w .0) (w .1) (w .2))
-    (aligned-ways (getD s first 0) (getD s (suc first) 0) (run (suc (suc first)) n s) h)
+    (aligned-ways (getD s first 0) (getD s (suc first) 0) (slice (suc (suc first)) n s) h)
   where
     after : getD s first 0 ≡ 32 → WholePart s (suc first) end → WholePart s first end
     after b w =
@@ -80,7 +81,7 @@ aligned-whole s (suc n) first end e h =
           needless = w .needless;
         }
 
-    here : 49 ≤ getD s first 0 → getD s first 0 ≤ 57 → areDigits (run (suc first) (suc n) s) ≡ true
+    here : 49 ≤ getD s first 0 → getD s first 0 ≤ 57 → areDigits (slice (suc first) (suc n) s) ≡ true
         → WholePart s first end
     here lo hi d =
         record {
@@ -94,7 +95,7 @@ aligned-whole s (suc n) first end e h =
         }
 
 whole-aligned : (s : List ℕ) (n first end : ℕ) → end ≡ first + n → WholePart s first end
-    → rightAligned (run first (suc n) s) ≡ true
+    → rightAligned (slice first (suc n) s) ≡ true
 unfolding rightAligned
 whole-aligned s zero first end e w =
     let d = w .digits first (omega (arith, e, w .within, w .present)) (omega (arith, e)) in
@@ -106,7 +107,7 @@ whole-aligned s (suc n) first end e w =
     let byte = d first (omega arith) (omega (arith, e)) in
     let some : getD s first 0 ≡ 48 → ⊥ = rw same at (w .needless) (omega (arith, same, e)) in
     let rest = stand-digits s n (suc first) end (omega (arith, e)) (λ i lo hi. d i (omega (arith, lo)) hi) in
-    high-first (getD s first 0) (getD s (suc first) 0) (run (suc (suc first)) n s)
+    high-first (getD s first 0) (getD s (suc first) 0) (slice (suc (suc first)) n s)
     (omega (arith, byte .0, some)) (omega (arith, byte .1)) rest)
     λ later.
     let b = w .blanks first (omega arith) (omega (arith, w .within, later)) in
@@ -120,7 +121,7 @@ whole-aligned s (suc n) first end e w =
       needless = w .needless;
     } in
     rw b
-    (aligned-blank (getD s (suc first) 0) (run (suc (suc first)) n s)
+    (aligned-blank (getD s (suc first) 0) (slice (suc (suc first)) n s)
     ∙ whole-aligned s n (suc first) end (omega (arith, e)) rest)
 
 -- ---- sizes

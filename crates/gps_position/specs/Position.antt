@@ -8,9 +8,9 @@ use lib.ListN.{getD}
 use lib.IntN.{ℤ, natAbs}
 use Rattle.clock_time.specs.Errors.{Answer, accepted, refused, errorNumber, given, checked}
 use Rattle.clock_time.specs.declared.Position.{Position}
+use Rattle.clock_time.specs.Lists.{ascii, slice}
 use Rattle.decimal.specs.Decimal.{value, digits}
-use Rattle.layout.specs.Ascii.{ascii}
-use Rattle.layout.specs.Layout.{run, number}
+use Rattle.layout.specs.Layout.{number}
 use Rattle.signed.specs.Signed.{signed, signHolds, signByte}
 use Rattle.gps_position.specs.Aligned.{areDigits, rightAligned, aligned}
 use Rattle.gps_position.specs.declared.PositionAnswer.{PositionAnswer}
@@ -36,11 +36,11 @@ longitude = record { first = 50; whole = 3; above = "E"; below = "W"; limit = 18
 
 -- the places before the point
 abbrev pub wholePart : Angle → List ℕ → List ℕ
-wholePart a s = run (a .first) (a .whole) s
+wholePart a s = slice (a .first) (a .whole) s
 
 -- the four places after the point
 abbrev pub decimals : Angle → List ℕ → List ℕ
-decimals a s = run (a .first + a .whole + 1) 4 s
+decimals a s = slice (a .first + a .whole + 1) 4 s
 
 -- the letter of the hemisphere
 abbrev pub hemisphere : Angle → List ℕ → ℕ
@@ -57,7 +57,7 @@ angleDigits a s = rightAligned (wholePart a s) && areDigits (decimals a s)
 -- "whole parts, height among them, are right-aligned with blanks for leading zeros [..]; four digits after each point"
 -- (01, Meinberg and ELV strings)
 unfoldable pub positionDigits : List ℕ → Bool
-positionDigits s = angleDigits latitude s && angleDigits longitude s && rightAligned (run 60 4 s)
+positionDigits s = angleDigits latitude s && angleDigits longitude s && rightAligned (slice 60 4 s)
 
 -- "at most 900,000 and 1,800,000; a zero with S or W is refused" (01, Meinberg and ELV strings)
 unfoldable pub inRange : Angle → List ℕ → Bool

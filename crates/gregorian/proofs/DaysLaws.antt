@@ -12,7 +12,8 @@ use lib.ListN.{getD, take}
 use borrow.Author.Tests.{le-leb, ne-eqb, not-false}
 use Rattle.clock_time.specs.Errors.{accepted, given, checked}
 use Rattle.clock_time.proofs.ErrorLaws.{accepted-passes}
-use Rattle.gregorian.specs.Date.{isLeapYear, monthLengths, daysInMonth, dateExists, supportedDate, sum, daysOfYears}
+use Rattle.clock_time.specs.Lists.{sum}
+use Rattle.gregorian.specs.Date.{isLeapYear, monthLengths, daysInMonth, dateExists, supportedDate, daysOfYears}
 use Rattle.gregorian.specs.Date.{daysBeforeMonth, daysSinceEpoch, dayNumber, weekdayNumber, weekdayOf}
 use Rattle.gregorian.specs.Date.{weekdayOrZero}
 use Rattle.gregorian.specs.Rules.{GregorianDate}

@@ -7,7 +7,7 @@ use mathlib.Core.Bool.{Bool, true, false, cond, _&&_, _||_, or-true}
 use mathlib.Core.List.{List}
 use lib.Dec.{eqb}
 use Rattle.clock_time.specs.Errors.{accepted}
-use Rattle.clock_time.specs.Writing.{Outcome, writing, writeBack}
+use Rattle.clock_time.specs.Writing.{Written, writing, writeBack}
 use Rattle.clock_time.specs.declared.ClockTime.{ClockTime}
 use Rattle.clock_time.proofs.BackLaws.{decided}
 use Rattle.clock_time.proofs.SameLaws.{eqb-refl, sameTime-refl, sameTime-true}
@@ -125,7 +125,7 @@ module _ {A : Type 0} (f : Format A) (representable : A → Bool) (d : Decides f
 
   -- the writer's code: the two tests, and the bytes of the text
   pub writes : ((a : A) → f .same a a ≡ true) → ((a b : A) → f .same a b ≡ true → a ≡ b)
-      → (a : A) (buffer : List ℕ) {t u : Bool} {bytes : List ℕ} {o : Outcome} → o ≡ writing (t && u) bytes buffer
+      → (a : A) (buffer : List ℕ) {t u : Bool} {bytes : List ℕ} {o : Written} → o ≡ writing (t && u) bytes buffer
       → t ≡ isValid (f .clock a) → u ≡ representable a → bytes ≡ f .text a → o ≡ writeText f a buffer
   unfolding writeText writeBack
   writes same-refl same-true a buffer w h k e =
@@ -178,7 +178,7 @@ module _
         → (readText f s ≡ accepted t) ↔ (((isValid t && representable t) ≡ true) × (text t ≡ s))
     clock-written = read-written (clockFormat layout fault fields text) representable clock-decides
 
-    pub clock-writes : (t : ClockTime) (buffer : List ℕ) {u v : Bool} {bytes : List ℕ} {o : Outcome}
+    pub clock-writes : (t : ClockTime) (buffer : List ℕ) {u v : Bool} {bytes : List ℕ} {o : Written}
         → o ≡ writing (u && v) bytes buffer → u ≡ isValid t → v ≡ representable t → bytes ≡ text t
         → o ≡ writeText (clockFormat layout fault fields text) t buffer
     clock-writes =

@@ -8,7 +8,8 @@ use mathlib.Core.List.{List, [], _∷_, _++_}
 use lib.Bits.{bitAnd, bitOr, bitXor, and-block, and-le-r, and-zero-r, or-block, or-lt, xor-block, xor-lt}
 use lib.Dec.{eqb, lit<}
 use lib.ListN.{length, getD}
-use Rattle.layout.specs.Layout.{allowed, places, flagOf, fitsFrom, run}
+use Rattle.clock_time.specs.Lists.{slice}
+use Rattle.layout.specs.Layout.{allowed, places, flagOf, fitsFrom}
 use Rattle.layout.specs.Words.{word, nonzeroBytes, flagPlaces}
 use Rattle.layout.proofs.ByteLaws.{bitOf, bit-small, nonzero-bit, one-zero, flag-test, fixed-test}
 use Rattle.layout.proofs.PartLaws.{fits-and}
@@ -68,8 +69,8 @@ zero-step n w p q b i j hi hj hb =
 -- letters and a last byte, held to the bytes of a string: the first difference is that from blanks
 pub flag-word : (letters s : List ℕ) (last at : ℕ) → Bytes letters → last < 256 → Bytes s
     → eachZero (suc (length letters))
-    (bitXor (word (run at (suc (length letters)) s)) (word (places (length letters) 32 ++ (last ∷ []))))
-    (bitXor (word (run at (suc (length letters)) s)) (word (letters ++ (last ∷ []))))
+    (bitXor (word (slice at (suc (length letters)) s)) (word (places (length letters) 32 ++ (last ∷ []))))
+    (bitXor (word (slice at (suc (length letters)) s)) (word (letters ++ (last ∷ []))))
     ≡ fitsFrom true at (flagPlaces letters last) s
 unfolding word nonzeroBytes fitsFrom
 flag-word [] s last at ha hl hs =
@@ -78,7 +79,7 @@ flag-word [] s last at ha hl hs =
     ∙ rw (or-self (eqb b last)) (and-true (eqb b last)) ∙ sym (fixed-test last b hl)
 flag-word (a ∷ letters) s last at ha hl hs =
     let b = getD s at 0 in
-    zero-step (suc (length letters)) (word (run (suc at) (suc (length letters)) s))
+    zero-step (suc (length letters)) (word (slice (suc at) (suc (length letters)) s))
     (word (places (length letters) 32 ++ (last ∷ []))) (word (letters ++ (last ∷ []))) b 32 a (lit< tt) (ha 0) (hs at)
     ∙ ap₂ _&&_ (sym (flag-test a b (ha 0))) (flag-word letters s last (suc at) (λ i. ha (suc i)) hl hs)
     ∙ sym (fits-and (allowed (flagOf a) b) (suc at) (flagPlaces letters last) s)

@@ -12,10 +12,12 @@ use lib.Dec.{eqb, ltb, lit<}
 use lib.ListN.{length, getD, drop, drop-of-length-le, List·getD-eq-default}
 use lib.Seq.{drop-cons}
 use borrow.Author.Tests.{eq-eqb, ne-eqb, eqb-true, eqb-false, le-ltb, ltb-false}
+use Rattle.clock_time.proofs.ListsLaws.{length-slice}
 use Rattle.clock_time.proofs.Tests.{both}
+use Rattle.clock_time.specs.Lists.{slice}
 use Rattle.decimal.specs.Decimal.{isDigit, firstNonDigit}
 use Rattle.decimal.proofs.DecimalLaws.{value-below}
-use Rattle.layout.specs.Layout.{digit, allowed, errorAt, offence, fitsFrom, first, found, FitsLayout, run, number}
+use Rattle.layout.specs.Layout.{digit, allowed, errorAt, offence, fitsFrom, first, found, FitsLayout, number}
 
 -- ---- one place after the other
 module _ (l s : List ℕ) (i : ℕ) (hl : i < length l) (hs : i < length s) where
@@ -169,16 +171,12 @@ module _ {l s : List ℕ} (h : FitsLayout l s) where
       rw e at (h .at at (place-within l at digit (lit< tt) e))
 
   -- digits stand at digit places
-  pub run-digits : (n at : ℕ) → allDigits (run at n l) ≡ true → firstNonDigit (run at n s) ≡ length (run at n s)
+  pub slice-digits : (n at : ℕ) → allDigits (slice at n l) ≡ true → firstNonDigit (slice at n s) ≡ length (slice at n s)
   unfolding firstNonDigit
-  run-digits zero at d = refl
-  run-digits (suc n) at d =
-      let w = both (eqb (getD l at 0) digit) (allDigits (run (suc at) n l)) d in
-      rw (digit-place at (w .0)) (ap suc (run-digits n (suc at) (w .1)))
+  slice-digits zero at d = refl
+  slice-digits (suc n) at d =
+      let w = both (eqb (getD l at 0) digit) (allDigits (slice (suc at) n l)) d in
+      rw (digit-place at (w .0)) (ap suc (slice-digits n (suc at) (w .1)))
 
-  pub length-run : (n at : ℕ) → length (run at n s) ≡ n
-  length-run zero at = refl
-  length-run (suc n) at = ap suc (length-run n (suc at))
-
-  pub number-below : (n at : ℕ) → allDigits (run at n l) ≡ true → number n at s < 10 ^ n
-  number-below n at d = rw (length-run n at) at (value-below (run at n s) (run-digits n at d))
+  pub number-below : (n at : ℕ) → allDigits (slice at n l) ≡ true → number n at s < 10 ^ n
+  number-below n at d = rw (length-slice n at s) at (value-below (slice at n s) (slice-digits n at d))

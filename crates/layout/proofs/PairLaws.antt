@@ -9,9 +9,10 @@ use lib.Bits.{bitAnd, and-block, and-mask, and-zero-l}
 use lib.ListN.{length, getD}
 use borrow.Author.Tests.{eqb-true}
 use Rattle.clock_time.proofs.Tests.{both}
+use Rattle.clock_time.specs.Lists.{slice}
 use Rattle.decimal.specs.Decimal.{valueFrom}
 use Rattle.decimal.proofs.DecimalLaws.{digit-range}
-use Rattle.layout.specs.Layout.{digit, places, FitsLayout, run, number}
+use Rattle.layout.specs.Layout.{digit, places, FitsLayout, number}
 use Rattle.layout.specs.Words.{word, lowPair, threeNumbers, numbersAt}
 use Rattle.layout.proofs.LayoutLaws.{allDigits, place-within, digit-place}
 use Rattle.layout.proofs.WordLaws.{Bytes, enough-bytes}
@@ -21,11 +22,11 @@ abbrev halves : (n at : ℕ) (s : List ℕ) → List ℕ
 halves zero at s = []
 halves (suc n) at s = getD s at 0 % 16 ∷ halves n (suc at) s
 
-word-halves : (n at : ℕ) (s : List ℕ) → Bytes s → bitAnd (word (run at n s)) (word (places n 15)) ≡ word (halves n at s)
+word-halves : (n at : ℕ) (s : List ℕ) → Bytes s → bitAnd (word (slice at n s)) (word (places n 15)) ≡ word (halves n at s)
 unfolding word
 word-halves zero at s h = and-zero-l 0
 word-halves (suc n) at s h =
-    and-block 8 (word (run (suc at) n s)) (word (places n 15)) (getD s at 0) 15 (h at) (lit< tt)
+    and-block 8 (word (slice (suc at) n s)) (word (places n 15)) (getD s at 0) 15 (h at) (lit< tt)
     ∙ rw (and-mask (getD s at 0) 4, word-halves n (suc at) s h)
 
 -- ten times a word of low halves, and the word moved by a byte: each byte of the sum is the number of a pair
@@ -84,21 +85,21 @@ half-pairs at s =
       third = rw (m, n0, n1, n2, n3, n4, n5, e6) (pair-here _ _ [] (l i6) (l i7));
     }
 
-pub pairs-of : (at : ℕ) (s : List ℕ) → Bytes s → Pairs (bitAnd (word (run at 8 s)) (word (places 8 15))) at s
+pub pairs-of : (at : ℕ) (s : List ℕ) → Bytes s → Pairs (bitAnd (word (slice at 8 s)) (word (places 8 15))) at s
 pairs-of at s h = rw (word-halves 8 at s h) (half-pairs at s)
 
 -- ---- digits
 module _ {l s : List ℕ} (h : FitsLayout l s) where
-  pub low-digit : (at : ℕ) → allDigits (run at 1 l) ≡ true → getD s at 0 % 16 ≡ number 1 at s
+  pub low-digit : (at : ℕ) → allDigits (slice at 1 l) ≡ true → getD s at 0 % 16 ≡ number 1 at s
   unfolding valueFrom
   low-digit at d =
       let w = both (eqb (getD l at 0) digit) true d in
       omega (arith, digit-range (getD s at 0) (digit-place h at (w .0)))
 
-  pub low-pair : (at : ℕ) → allDigits (run at 2 l) ≡ true → lowPair at s ≡ number 2 at s
+  pub low-pair : (at : ℕ) → allDigits (slice at 2 l) ≡ true → lowPair at s ≡ number 2 at s
   unfolding lowPair valueFrom
   low-pair at d =
-      let w = both (eqb (getD l at 0) digit) (allDigits (run (suc at) 1 l)) d in
+      let w = both (eqb (getD l at 0) digit) (allDigits (slice (suc at) 1 l)) d in
       let v = both (eqb (getD l (suc at) 0) digit) true (w .1) in
       omega (
         arith,
@@ -107,8 +108,8 @@ module _ {l s : List ℕ} (h : FitsLayout l s) where
       )
 
   -- two and three pairs of digits of a string that fits its layout
-  pub numbers-two : (at : ℕ) → at + 8 ≤ length l → allDigits (run at 2 l) ≡ true
-      → allDigits (run (at + 3) 2 l) ≡ true
+  pub numbers-two : (at : ℕ) → at + 8 ≤ length l → allDigits (slice at 2 l) ≡ true
+      → allDigits (slice (at + 3) 2 l) ≡ true
       → numbersAt at s
       ≡ record { first = number 2 at s; second = number 2 (at + 3) s; third = lowPair (at + 6) s }
   unfolding numbersAt threeNumbers
@@ -116,8 +117,8 @@ module _ {l s : List ℕ} (h : FitsLayout l s) where
       let eight : at + 8 ≤ length s = omega (arith, h .long) in
       rw (enough-bytes at s eight, low-pair at a, low-pair (at + 3) b)
 
-  pub numbers-fit : (at : ℕ) → allDigits (run at 2 l) ≡ true → allDigits (run (at + 3) 2 l) ≡ true
-      → allDigits (run (at + 6) 2 l) ≡ true
+  pub numbers-fit : (at : ℕ) → allDigits (slice at 2 l) ≡ true → allDigits (slice (at + 3) 2 l) ≡ true
+      → allDigits (slice (at + 6) 2 l) ≡ true
       → numbersAt at s
       ≡ record { first = number 2 at s; second = number 2 (at + 3) s; third = number 2 (at + 6) s }
   numbers-fit at a b c = numbers-two at room a b ∙ rw (low-pair (at + 6) c)

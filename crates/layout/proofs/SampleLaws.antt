@@ -9,7 +9,8 @@ use lib.Arith.{mod-mul}
 use lib.Bits.{bitAnd, bitOr, bitXor, or-block, or-lt, xor-block, xor-lt}
 use lib.Dec.{eqb, lit<}
 use lib.ListN.{length, getD}
-use Rattle.layout.specs.Layout.{allowed, fitsFrom, run}
+use Rattle.clock_time.specs.Lists.{slice}
+use Rattle.layout.specs.Layout.{allowed, fitsFrom}
 use Rattle.layout.specs.Words.{word, eachBySample, samplePlace, samplePlaces}
 use Rattle.layout.proofs.ByteLaws.{moreOf, highOf, clear, sample-test, high-small, no-carry}
 use Rattle.layout.proofs.PartLaws.{fits-and}
@@ -51,15 +52,15 @@ clear-step size m h x n k r some hr hk kept =
 
 -- as many bytes as a sample has, held to it
 pub test-word : (ps s : List ℕ) (at : ℕ) → Bytes ps → Bytes s
-    → clear (256 ^ length ps) (word (mores ps)) (word (highs ps)) (bitXor (word (run at (length ps) s)) (word ps))
+    → clear (256 ^ length ps) (word (mores ps)) (word (highs ps)) (bitXor (word (slice at (length ps) s)) (word ps))
     ≡ fitsFrom true at (samplePlaces ps) s
 unfolding word fitsFrom
 test-word [] s at hp hs = refl
 test-word (p ∷ ps) s at hp hs =
     let b = getD s at 0 in
-    let x = bitXor (word (run (suc at) (length ps) s)) (word ps) in
+    let x = bitXor (word (slice (suc at) (length ps) s)) (word ps) in
     let small = xor-lt 8 b p (hs at) (hp 0) in
-    rw (pow-suc 256 (length ps), xor-block 8 (word (run (suc at) (length ps) s)) (word ps) b p (hs at) (hp 0))
+    rw (pow-suc 256 (length ps), xor-block 8 (word (slice (suc at) (length ps) s)) (word ps) b p (hs at) (hp 0))
     (clear-step (256 ^ length ps) (word (mores ps)) (word (highs ps)) x (moreOf p) (highOf p) (bitXor b p)
     (one-le-pow (length ps) 256 (lit< tt)) small (high-small p) (no-carry p (bitXor b p) small)
     ∙ ap₂ _&&_ (sample-test p b (hp 0) (hs at)) (test-word ps s (suc at) (λ i. hp (suc i)) hs)

@@ -7,7 +7,7 @@ use mathlib.Core.List.{List, [], _∷_}
 use lib.Dec.{leb}
 use lib.ListN.{length, getD}
 use borrow.Author.Tests.{le-leb, lt-leb}
-use Rattle.layout.specs.Layout.{run}
+use Rattle.clock_time.specs.Lists.{slice}
 use Rattle.layout.specs.Words.{enough}
 
 -- each number is a byte
@@ -41,7 +41,7 @@ unfolding enough
 no-bytes at s h = rw (lt-leb (at + 8) (length s) h)
 
 pub run-eight : (at : ℕ) (s : List ℕ)
-    → run at 8 s ≡ getD s at 0 ∷ getD s (at + 1) 0 ∷ getD s (at + 2) 0 ∷ getD s (at + 3) 0 ∷ getD s (at + 4) 0
+    → slice at 8 s ≡ getD s at 0 ∷ getD s (at + 1) 0 ∷ getD s (at + 2) 0 ∷ getD s (at + 3) 0 ∷ getD s (at + 4) 0
     ∷ getD s (at + 5) 0 ∷ getD s (at + 6) 0 ∷ getD s (at + 7) 0 ∷ []
 run-eight at s =
     let e1 : at + 1 ≡ suc at = omega arith in

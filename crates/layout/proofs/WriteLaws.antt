@@ -12,12 +12,14 @@ use lib.ListN.{length, getD, drop, drop-of-length-le}
 use lib.Seq.{drop-cons}
 use borrow.Author.Tests.{eq-eqb, eqb-true, ltb-true}
 use Rattle.clock_time.proofs.Tests.{both}
+use Rattle.clock_time.specs.Lists.{slice}
+use Rattle.clock_time.proofs.ListsLaws.{length-slice}
 use Rattle.decimal.specs.Decimal.{digits}
 use Rattle.decimal.proofs.DecimalLaws.{digits-value}
 use Rattle.gregorian.specs.Date.{fullYear}
-use Rattle.layout.specs.Layout.{flagOf, allowed, FitsLayout, run, number}
+use Rattle.layout.specs.Layout.{flagOf, allowed, FitsLayout, number}
 use Rattle.layout.proofs.ByteLaws.{flag-test}
-use Rattle.layout.proofs.LayoutLaws.{allDigits, place-within, run-digits, length-run, number-below}
+use Rattle.layout.proofs.LayoutLaws.{allDigits, place-within, slice-digits, number-below}
 
 -- ---- the string from its open places: the layout gives the fixed ones
 abbrev pub restore : ℕ → List ℕ → List ℕ → List ℕ
@@ -62,11 +64,11 @@ unfolding fullYear
 full-year n h = omega arith
 
 module _ {l s : List ℕ} (h : FitsLayout l s) where
-  pub digits-number : (n at : ℕ) → allDigits (run at n l) ≡ true → digits n (number n at s) ≡ run at n s
-  digits-number n at d = rw (length-run h n at) at (digits-value (run at n s) (run-digits h n at d))
+  pub digits-number : (n at : ℕ) → allDigits (slice at n l) ≡ true → digits n (number n at s) ≡ slice at n s
+  digits-number n at d = rw (length-slice n at s) at (digits-value (slice at n s) (slice-digits h n at d))
 
   -- a year's last two digits are those that were read
-  pub digits-year : (at : ℕ) → allDigits (run at 2 l) ≡ true → digits 2 (fullYear (number 2 at s)) ≡ run at 2 s
+  pub digits-year : (at : ℕ) → allDigits (slice at 2 l) ≡ true → digits 2 (fullYear (number 2 at s)) ≡ slice at 2 s
   digits-year at d =
       year-digits _ ∙ rw (full-year (number 2 at s) (number-below h 2 at d)) (digits-number 2 at d)
 

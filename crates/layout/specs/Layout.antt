@@ -6,6 +6,7 @@ use mathlib.Core.Bool.{Bool, true, cond, _&&_, _||_}
 use mathlib.Core.List.{List, [], _∷_}
 use lib.Dec.{ltb, eqb}
 use lib.ListN.{length, getD}
+use Rattle.clock_time.specs.Lists.{slice}
 use Rattle.decimal.specs.Decimal.{isDigit, value}
 
 -- "Places count from 0." (01, Meinberg and ELV strings): a layout has a number for each of them in turn. Below 256 it is
@@ -78,14 +79,9 @@ found k l s = ltb (first k l s) (length l)
 unfoldable pub layoutError : List ℕ → List ℕ → ℕ
 layoutError l s = cond (eqb (length l) (length s)) (cond (found 2 l s) 2 (cond (found 3 l s) 3 4)) 1
 
--- the k bytes of s from a place on
-abbrev pub run : ℕ → ℕ → List ℕ → List ℕ
-run at zero s = []
-run at (suc k) s = getD s at 0 ∷ run (suc at) k s
-
 -- the number that k digits from a place on stand for
 abbrev pub number : ℕ → ℕ → List ℕ → ℕ
-number k at s = value (run at k s)
+number k at s = value (slice at k s)
 
 -- a letter stands at a place
 abbrev pub has : Char → ℕ → List ℕ → Bool

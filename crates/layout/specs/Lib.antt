@@ -1,5 +1,4 @@
 -- The definitions that the contracts and the main results cite.
-pub mod Ascii
 pub mod Layout
 pub mod Words
 pub mod Text

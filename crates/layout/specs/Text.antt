@@ -7,7 +7,7 @@ use lib.Dec.{leb, eqb}
 use lib.ListN.{length}
 use Rattle.clock_time.specs.Errors.{Answer, accepted, refused, errorNumber, Check, given, checked}
 use Rattle.clock_time.specs.Same.{sameTime}
-use Rattle.clock_time.specs.Writing.{Outcome, writeBack}
+use Rattle.clock_time.specs.Writing.{Written, writeBack}
 use Rattle.clock_time.specs.declared.ClockTime.{ClockTime}
 use Rattle.gregorian.specs.Date.{dateExists}
 use Rattle.calendar.specs.TimeOfDay.{timeExists}
@@ -68,7 +68,7 @@ unfoldable pub readText : {A : Type 0} → Format A → List ℕ → Answer A
 readText f s = checked (textChecks f s) (f .fields s)
 
 -- the writer of any format
-unfoldable pub writeText : {A : Type 0} → Format A → A → List ℕ → Outcome
+unfoldable pub writeText : {A : Type 0} → Format A → A → List ℕ → Written
 writeText f a buffer = writeBack (readText f) (f .text) (f .same) a buffer
 
 -- a letter where a flag is set, else a blank

@@ -6,8 +6,8 @@ use mathlib.Core.Bool.{true}
 use mathlib.Core.List.{List, _++_}
 use lib.ListN.{length, take, drop, length-append, length-drop}
 use lib.Seq.{take-all, take-add, take-append-seam}
-use Rattle.clock_time.specs.Writing.{Outcome, outcome, writing}
-use Rattle.clock_time.specs.declared.WriteAnswer.the-variants.{Written}
+use Rattle.clock_time.specs.Writing.{Written, written, writing}
+use Rattle.clock_time.specs.declared.WriteAnswer.the-variants as answers
 use Rattle.clock_time.proofs.WritingLaws.{writing-accepted}
 use Rattle.framing.proofs.FeedLaws.{rest}
 use Rattle.listing.specs.Listing.{after}
@@ -18,10 +18,10 @@ use Rattle.list_times.specs.declared.Part.{Part}
 use Rattle.list_times.specs.declared.State.{State}
 
 -- what was written stands at the front
-pub written-holds : (n : ℕ) (x text d : List ℕ) → outcome (Written n) x ≡ writing true text d → Holds x n text
+pub written-holds : (n : ℕ) (x text d : List ℕ) → written (answers.Written n) x ≡ writing true text d → Holds x n text
 written-holds n x text d e =
-    let w = writing-accepted text d true n (sym (ap (λ (o : Outcome). o .answer) e)) in
-    let m : x ≡ text ++ drop (length text) d = ap (λ (o : Outcome). o .memory) e ∙ w .2 in
+    let w = writing-accepted text d true n (sym (ap (λ (o : Written). o .answer) e)) in
+    let m : x ≡ text ++ drop (length text) d = ap (λ (o : Written). o .memory) e ∙ w .2 in
     rw (w .1, m) (omega (arith, length-append text (drop (length text) d)), take-append-seam text _)
 
 -- a turn of a loop over s, at i

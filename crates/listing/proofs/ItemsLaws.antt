@@ -10,7 +10,7 @@ use Rattle.clock_time.specs.Errors.{accepted, refused, errorNumber}
 use Rattle.clock_time.specs.declared.Error.{Error}
 use Rattle.clock_time.specs.declared.Error.the-variants as errors
 use Rattle.clock_time.specs.declared.ClockTime.{ClockTime}
-use Rattle.layout.specs.Ascii.{ascii}
+use Rattle.clock_time.specs.Lists.{ascii}
 use Rattle.listing_lines.specs.Line.{lineOf}
 use Rattle.listing_lines.specs.Numeral.{numeral}
 use Rattle.listing_lines.proofs.LineLaws.{length-line}

@@ -5,9 +5,9 @@ use mathlib.Core.Path.{_≡_}
 use mathlib.Core.Bool.{true}
 use mathlib.Core.List.{List, [], _∷_, _++_}
 use lib.ListN.{length, length-append}
+use Rattle.clock_time.specs.Lists.{ascii}
 use Rattle.framing.specs.Framed.{allPlain}
 use Rattle.framing.proofs.Theorems as framing
-use Rattle.layout.specs.Ascii.{ascii}
 use Rattle.listing_lines.specs.Totals.{totalsLine}
 use Rattle.listing.specs.declared.Listing.{Listing}
 use Rattle.listing.specs.Items.{Item, string, overlong, readString, itemLine}

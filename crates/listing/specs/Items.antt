@@ -5,7 +5,7 @@ use mathlib.Core.List.{List, [], _++_}
 use lib.ListN.{length, take}
 use Rattle.clock_time.specs.Errors.{Answer, accepted, refused, errorNumber}
 use Rattle.clock_time.specs.declared.ClockTime.{ClockTime}
-use Rattle.layout.specs.Ascii.{ascii}
+use Rattle.clock_time.specs.Lists.{ascii}
 use Rattle.time_string.specs.declared.Kind.{Kind}
 use Rattle.time_string.specs.Kind.{Reading, readingTime, kindOf, readAs}
 use Rattle.framing.specs.Step.{FeedAnswer, nothingYet, complete, dropped}
@@ -23,14 +23,14 @@ clockAnswer (accepted r) = accepted (readingTime r)
 clockAnswer (refused k) = refused k
 
 -- a string read as the kind that was told
-abbrev pub readTold : List ℕ → Answer Kind → Answer ClockTime
-readTold s (accepted kind) = clockAnswer (readAs kind s)
-readTold s (refused k) = refused k
+abbrev pub readAsKind : List ℕ → Answer Kind → Answer ClockTime
+readAsKind s (accepted kind) = clockAnswer (readAs kind s)
+readAsKind s (refused k) = refused k
 
--- "A separate question tells the kind from the bytes" (01, Meinberg and ELV strings): a string is read as the kind that
+-- "A separate question lists-next the kind from the bytes" (01, Meinberg and ELV strings): a string is read as the kind that
 -- is told, so one of 21 bytes as ELV
 unfoldable pub readString : List ℕ → Answer ClockTime
-readString s = readTold s (kindOf s)
+readString s = readAsKind s (kindOf s)
 
 -- ---- what a byte brings to the listing: nothing, a string as it was read, or an overlong string dropped
 pub data Item : Type 0 where

@@ -39,12 +39,12 @@ fn entry_of(answer: TimeAnswer) -> Entry
     }
 }
 
-// Reads a string as the kind that its bytes tell.
+// Reads a string as the kind that its bytes next_line.
 fn read_string(s: &[u8]) -> Entry
     ensures { λ r. ⌜ entryItem r ≡ string (readString (now (s .entry))) ⌝ }
 {
     match time_string::kind_of(s) {
-        KindAnswer::Told(kind) => entry_of(time_string::read(kind, s)),
+        KindAnswer::Kind(kind) => entry_of(time_string::read(kind, s)),
         KindAnswer::Refused(e) => Entry::Refused(e),
     }
 }

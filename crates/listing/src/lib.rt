@@ -6,7 +6,7 @@ ghost use Prim.Native.Nat.{_+_, _≤_};
 ghost use lib.ListN.{length};
 ghost use lib.Seq.{paste};
 ghost use Rattle.listing.specs.Listing.{start, listedInto, listOf};
-ghost use Rattle.listing.specs.Told.{Tells};
+ghost use Rattle.listing.specs.NextLine.{ListsNext};
 
 mod entry;
 
@@ -26,7 +26,7 @@ pub struct Listed {
 }
 
 // The state after the bytes taken, and their line.
-struct Told {
+struct LineResult {
     listing: Listing,
     line: Line,
     taken: usize,
@@ -43,8 +43,8 @@ fn put_line(out: &mut [u8], at: usize, line: Line)
 }
 
 // Takes the bytes of s up to the first that ends a string.
-fn tell(listing: Listing, s: &[u8]) -> Told
-    ensures { λ r. ⌜ Tells listing (now (s .entry)) r ⌝ }
+fn next_line(listing: Listing, s: &[u8]) -> LineResult
+    ensures { λ r. ⌜ ListsNext listing (now (s .entry)) r ⌝ }
 {
     let framer = listing.framer;
     let totals = listing.totals;
@@ -56,7 +56,7 @@ fn tell(listing: Listing, s: &[u8]) -> Told
     let totals = entry::count(totals, entry);
     let listing = Listing { framer, totals };
     let line = entry::line_of(entry);
-    Told {
+    LineResult {
         listing,
         line,
         taken: fed.taken,
@@ -92,13 +92,13 @@ impl Listing {
                     length: at,
                 };
             }
-            let told = tell(listing, &s[i..]);
-            let next = told.listing;
+            let result = next_line(listing, &s[i..]);
+            let next = result.listing;
             listing = next;
-            let line = told.line;
+            let line = result.line;
             put_line(out, at, line);
             at += line.length;
-            i += told.taken;
+            i += result.taken;
         }
         Listed {
             listing,

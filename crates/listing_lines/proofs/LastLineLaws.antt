@@ -8,8 +8,8 @@ use mathlib.Core.List.{List, [], _∷_, _++_, append-nil}
 use lib.ListN.{length, take, drop, set, length-set, length-drop, drop-of-length-le}
 use lib.Seq.{set-split, drop-at, length-take-le, append-snoc, take-length, take-all}
 use lib.Seq.{paste, length-paste, take-paste}
+use Rattle.clock_time.specs.Lists.{ascii}
 use Rattle.listing_lines.specs.Numeral.{numeralWithin, numeral}
-use Rattle.layout.specs.Ascii.{ascii}
 use Rattle.listing_lines.specs.Totals.{totalsLine}
 use Rattle.listing_lines.specs.LastLine.{Spells, Extends, Shown}
 use Rattle.listing_lines.specs.declared.Totals.{Totals}

@@ -4,11 +4,11 @@ use Prim.Native.Char.{Char, code}
 use mathlib.Core.Bool.{Bool, cond}
 use mathlib.Core.List.{List, [], _∷_, _++_}
 use lib.Dec.{eqb}
-use Rattle.clock_time.specs.Writing.{Outcome, writing}
+use Rattle.clock_time.specs.Writing.{Written, writing}
 use Rattle.clock_time.specs.declared.ClockTime.{ClockTime}
+use Rattle.clock_time.specs.Lists.{ascii}
 use Rattle.calendar.specs.UnixTime.{isValid}
 use Rattle.decimal.specs.Decimal.{digits}
-use Rattle.layout.specs.Ascii.{ascii}
 use Rattle.meinberg_gps.specs.Gps.{offsetText}
 
 -- a letter where a flag is set, else a dash
@@ -42,5 +42,5 @@ lineOf t = lineWith t (offsetText (t .«utc_offset»)) (flagsText t)
 
 -- "Refused with 23 where the fields are no valid reading" (01, The reading); "For a writer: 23, 20" (01, Refusal
 -- numbers)
-unfoldable pub writeLine : ClockTime → List ℕ → Outcome
+unfoldable pub writeLine : ClockTime → List ℕ → Written
 writeLine t buffer = writing (isValid t) (lineOf t) buffer

@@ -2,8 +2,8 @@
 use Prim.Native.Nat.{ℕ}
 use mathlib.Core.Bool.{true}
 use mathlib.Core.List.{List, _++_}
-use Rattle.clock_time.specs.Writing.{Outcome, writing}
-use Rattle.layout.specs.Ascii.{ascii}
+use Rattle.clock_time.specs.Writing.{Written, writing}
+use Rattle.clock_time.specs.Lists.{ascii}
 use Rattle.listing_lines.specs.Numeral.{numeral}
 use Rattle.listing_lines.specs.declared.Totals.{Totals}
 
@@ -15,5 +15,5 @@ totalsLine t =
     ++ ascii " dropped " ++ numeral (t .dropped) ++ ascii "\n"
 
 -- 20: "[..] a buffer too short to write to" (01, Refusal numbers)
-unfoldable pub writeTotals : Totals → List ℕ → Outcome
+unfoldable pub writeTotals : Totals → List ℕ → Written
 writeTotals t buffer = writing true (totalsLine t) buffer

@@ -2,7 +2,7 @@
 use clock_time::ClockTime;
 use clock_time::WriteAnswer;
 ghost use mathlib.Core.Path.{_≡_};
-ghost use Rattle.clock_time.specs.Writing.{outcome};
+ghost use Rattle.clock_time.specs.Writing.{written};
 ghost use Rattle.listing_lines.specs.Line.{writeLine};
 ghost use Rattle.listing_lines.specs.Totals.{writeTotals};
 
@@ -19,7 +19,7 @@ pub struct Totals {
 // Writes the line of a clock time, its line feed included, to the front of `out`. Refuses with Unrepresentable (23) if
 // its fields are no valid reading, then with LentMemory (20) if there is no room for 35 bytes.
 pub fn write_line(t: ClockTime, out: &mut [u8]) -> WriteAnswer
-    ensures { λ r. ⌜ outcome r (now (out .exit)) ≡ writeLine t (now (out .entry)) ⌝ }
+    ensures { λ r. ⌜ written r (now (out .exit)) ≡ writeLine t (now (out .entry)) ⌝ }
 {
     let text = line::line_of(t);
     clock_time::write_bytes(calendar::unix_time::is_valid(t), &text, out)
@@ -28,7 +28,7 @@ pub fn write_line(t: ClockTime, out: &mut [u8]) -> WriteAnswer
 // Writes the line of the totals, its line feed included, to the front of `out`. Refuses with LentMemory (20) if there
 // is no room.
 pub fn write_totals(t: Totals, out: &mut [u8]) -> WriteAnswer
-    ensures { λ r. ⌜ outcome r (now (out .exit)) ≡ writeTotals t (now (out .entry)) ⌝ }
+    ensures { λ r. ⌜ written r (now (out .exit)) ≡ writeTotals t (now (out .entry)) ⌝ }
 {
     let line = last_line::line_of(t);
     let text = line.text;

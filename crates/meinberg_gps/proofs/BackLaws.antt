@@ -10,8 +10,8 @@ use lib.IntN.{pos}
 use Rattle.clock_time.specs.Same.{eqℤ, sameTime, samePosition}
 use Rattle.clock_time.proofs.SameLaws.{sameTime-refl, sameTime-true, samePosition-refl, samePosition-true}
 use Rattle.clock_time.proofs.Tests.{both}
-use Rattle.layout.specs.Ascii.{ascii}
-use Rattle.layout.specs.Layout.{allowed, FitsLayout, run, number, has}
+use Rattle.clock_time.specs.Lists.{ascii, slice}
+use Rattle.layout.specs.Layout.{allowed, FitsLayout, number, has}
 use Rattle.layout.specs.Text.{letter}
 use Rattle.layout.proofs.AcceptLaws.{PassesText}
 use Rattle.layout.proofs.WriteLaws.{restore-fits, digits-number, digits-year, letter-back}
@@ -25,10 +25,10 @@ use Rattle.meinberg_gps.proofs.OffsetLaws.{offset-back}
 -- the PZF string with the date, the time and the flags of a GPS string
 abbrev pzfAt : List ℕ → List ℕ
 pzfAt s =
-    ascii "\u{2}" ++ run 1 2 s ++ ascii "." ++ run 4 2 s ++ ascii "." ++ run 7 2 s
-    ++ ascii "; " ++ run 11 1 s
-    ++ ascii "; " ++ run 14 2 s ++ ascii ":" ++ run 17 2 s ++ ascii ":" ++ run 20 2 s
-    ++ ascii "; " ++ (letter (eqℤ (offsetOf s) (pos 0)) "U" ∷ run 32 6 s ++ ascii "\u{3}")
+    ascii "\u{2}" ++ slice 1 2 s ++ ascii "." ++ slice 4 2 s ++ ascii "." ++ slice 7 2 s
+    ++ ascii "; " ++ slice 11 1 s
+    ++ ascii "; " ++ slice 14 2 s ++ ascii ":" ++ slice 17 2 s ++ ascii ":" ++ slice 20 2 s
+    ++ ascii "; " ++ (letter (eqℤ (offsetOf s) (pos 0)) "U" ∷ slice 32 6 s ++ ascii "\u{3}")
 
 pzf-back : {s : List ℕ} → FitsLayout gpsLayout s → pzfText (clockOf s) ≡ pzfAt s
 unfolding pzfText clockOf gpsLayout ascii allowed

@@ -3,13 +3,13 @@ use Prim.Native.Nat.{ℕ}
 use mathlib.Core.Path.{_≡_, refl}
 use mathlib.Core.Bool.{Bool, true, false, _&&_}
 use mathlib.Core.List.{List}
-use Rattle.clock_time.specs.Writing.{Outcome, writing}
+use Rattle.clock_time.specs.Writing.{Written, writing}
 use Rattle.clock_time.proofs.SameLaws.{beq-refl}
+use Rattle.clock_time.specs.Lists.{ascii}
 use Rattle.calendar.specs.UnixTime.{isValid}
 use Rattle.calendar.proofs.ValidLaws.{valid}
 use Rattle.decimal.specs.Decimal.{digits}
 use Rattle.decimal.proofs.DecimalLaws.{digit-written}
-use Rattle.layout.specs.Ascii.{ascii}
 use Rattle.layout.specs.Layout.{allowed, fitsFrom, FitsLayout, number}
 use Rattle.layout.proofs.LayoutLaws.{tested-fits}
 use Rattle.layout.proofs.DecideLaws.{letter-fits, letter-read, numbers-written, Decides}
@@ -68,7 +68,7 @@ decides =
     }
 
 -- the writer's code does as its definition says
-pub writes : (g : GpsTime) (buffer : List ℕ) {u v : Bool} {bytes : List ℕ} {o : Outcome}
+pub writes : (g : GpsTime) (buffer : List ℕ) {u v : Bool} {bytes : List ℕ} {o : Written}
     → o ≡ writing (u && v) bytes buffer → u ≡ isValid (g .time) → v ≡ positionRepresentable (g .position)
     → bytes ≡ gpsText g → o ≡ writeGps g buffer
 unfolding writeGps gps

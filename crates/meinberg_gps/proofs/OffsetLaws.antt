@@ -9,11 +9,11 @@ use lib.ListN.{getD}
 use lib.IntN.{ℤ, natAbs}
 use borrow.Author.Tests.{leb-true, le-leb, not-false}
 use Rattle.clock_time.proofs.Tests.{both}
+use Rattle.clock_time.specs.Lists.{ascii, slice}
 use Rattle.calendar.specs.UnixTime.{offsetInRange}
 use Rattle.decimal.specs.Decimal.{digits}
 use Rattle.decimal.proofs.DecimalLaws.{value-digits}
-use Rattle.layout.specs.Ascii.{ascii}
-use Rattle.layout.specs.Layout.{FitsLayout, run, number, has}
+use Rattle.layout.specs.Layout.{FitsLayout, number, has}
 use Rattle.layout.proofs.LayoutLaws.{number-below}
 use Rattle.layout.proofs.WriteLaws.{digits-number}
 use Rattle.signed.specs.Signed.{signHolds}
@@ -43,7 +43,7 @@ offset-in-range s h =
 
 -- the bytes of an offset at its places
 abbrev pub offsetAt : List ℕ → List ℕ
-offsetAt s = getD s 24 0 ∷ run 25 2 s ++ ascii ":" ++ run 28 2 s
+offsetAt s = getD s 24 0 ∷ slice 25 2 s ++ ascii ":" ++ slice 28 2 s
 
 -- it is written as it was read
 pub offset-back : {s : List ℕ} → FitsLayout gpsLayout s → offsetFault s ≡ false → offsetText (offsetOf s) ≡ offsetAt s
@@ -66,7 +66,7 @@ pub record OffsetRead (z : ℤ) (s : List ℕ) : Type 0 where
   pub faultless : offsetFault s ≡ false
   pub same : offsetOf s ≡ z
 
-pub offset-read : (z : ℤ) → offsetInRange z ≡ true → (s : List ℕ) → run 24 6 s ≡ offsetText z → OffsetRead z s
+pub offset-read : (z : ℤ) → offsetInRange z ≡ true → (s : List ℕ) → slice 24 6 s ≡ offsetText z → OffsetRead z s
 unfolding offsetInRange offsetFault offsetOf offsetText digits ascii
 offset-read z h s e =
     let n = natAbs z in

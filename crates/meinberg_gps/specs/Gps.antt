@@ -8,13 +8,13 @@ use lib.ListN.{getD}
 use lib.IntN.{ℤ, natAbs}
 use Rattle.clock_time.specs.Errors.{Answer, accepted, refused, errorNumber, checked}
 use Rattle.clock_time.specs.Same.{sameTime, samePosition}
-use Rattle.clock_time.specs.Writing.{Outcome}
+use Rattle.clock_time.specs.Writing.{Written}
 use Rattle.clock_time.specs.declared.ClockTime.{ClockTime}
 use Rattle.clock_time.specs.declared.Position.{Position}
+use Rattle.clock_time.specs.Lists.{ascii, slice}
 use Rattle.gregorian.specs.Date.{fullYear}
 use Rattle.decimal.specs.Decimal.{digits}
-use Rattle.layout.specs.Ascii.{ascii}
-use Rattle.layout.specs.Layout.{digit, free, flag, places, run, number, has}
+use Rattle.layout.specs.Layout.{digit, free, flag, places, number, has}
 use Rattle.layout.specs.Text.{Format, clockChecks, readText, writeText, letter}
 use Rattle.signed.specs.Signed.{signed, signHolds, signByte}
 use Rattle.gps_position.specs.Position.{positionFault, positionOf, positionText}
@@ -93,9 +93,9 @@ gpsFields s = record { time = clockOf s; position = positionOf s }
 -- from u to a as there, those of an offset, a letter for second 60 and the bytes of a position
 unfoldable pub lineWith : List ℕ → List ℕ → ℕ → List ℕ → List ℕ
 lineWith pzf offset leap position =
-    run 0 24 pzf ++ run 0 6 offset
-    ++ ascii "; " ++ run 25 6 pzf ++ (leap ∷ [])
-    ++ ascii "; " ++ run 0 23 position ++ ascii "m\u{3}"
+    slice 0 24 pzf ++ slice 0 6 offset
+    ++ ascii "; " ++ slice 25 6 pzf ++ (leap ∷ [])
+    ++ ascii "; " ++ slice 0 23 position ++ ascii "m\u{3}"
 
 -- the only string that could be read as a clock time and a position
 unfoldable pub gpsText : GpsTime → List ℕ
@@ -127,7 +127,7 @@ unfoldable pub readGps : List ℕ → Answer GpsTime
 readGps s = readText gps s
 
 -- the writer, by the rule for every time string
-unfoldable pub writeGps : GpsTime → List ℕ → Outcome
+unfoldable pub writeGps : GpsTime → List ℕ → Written
 writeGps g buffer = writeText gps g buffer
 
 -- the function's answer: what was read, or a refusal with the error's number

@@ -2,13 +2,14 @@
 ghost use mathlib.Core.Path.{_≡_};
 ghost use mathlib.Core.Bool.{true};
 ghost use lib.ListN.{length};
-ghost use Rattle.layout.specs.Layout.{run, fitsFrom};
+ghost use Rattle.clock_time.specs.Lists.{slice};
+ghost use Rattle.layout.specs.Layout.{fitsFrom};
 ghost use Rattle.meinberg_gps.specs.Gps.{gpsLayout};
 
 // Whether every fixed byte after the flags stands.
 fn rest_fits(s: &[u8]) -> bool
     requires { ⌜ length (now s) ≡ 66 ⌝ }
-    ensures { λ r. ⌜ r ≡ fitsFrom true 40 (run 40 26 gpsLayout) (now (s .entry)) ⌝ }
+    ensures { λ r. ⌜ r ≡ fitsFrom true 40 (slice 40 26 gpsLayout) (now (s .entry)) ⌝ }
 {
     (s[40] == b' ')
         & (s[43] == b'.')

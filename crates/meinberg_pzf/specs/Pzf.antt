@@ -5,11 +5,11 @@ use mathlib.Core.List.{List, _∷_, _++_}
 use lib.IntN.{ℤ, pos}
 use Rattle.clock_time.specs.Errors.{Answer}
 use Rattle.clock_time.specs.Same.{eqℤ}
-use Rattle.clock_time.specs.Writing.{Outcome}
+use Rattle.clock_time.specs.Writing.{Written}
 use Rattle.clock_time.specs.declared.ClockTime.{ClockTime}
+use Rattle.clock_time.specs.Lists.{ascii}
 use Rattle.gregorian.specs.Date.{fullYear}
 use Rattle.decimal.specs.Decimal.{digits}
-use Rattle.layout.specs.Ascii.{ascii}
 use Rattle.layout.specs.Layout.{digit, flag, places, number, has}
 use Rattle.layout.specs.Text.{Format, clockFormat, readText, writeText, letter}
 
@@ -77,5 +77,5 @@ unfoldable pub readPzf : List ℕ → Answer ClockTime
 readPzf s = readText pzf s
 
 -- the writer, by the rule for every time string
-unfoldable pub writePzf : ClockTime → List ℕ → Outcome
+unfoldable pub writePzf : ClockTime → List ℕ → Written
 writePzf t buffer = writeText pzf t buffer

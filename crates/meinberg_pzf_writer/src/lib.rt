@@ -2,7 +2,7 @@
 use clock_time::ClockTime;
 use clock_time::WriteAnswer;
 ghost use mathlib.Core.Path.{_≡_};
-ghost use Rattle.clock_time.specs.Writing.{outcome};
+ghost use Rattle.clock_time.specs.Writing.{written};
 ghost use Rattle.meinberg_pzf.specs.Pzf.{lineWith, pzfText, pzfRepresentable, writePzf};
 
 // The layout with the fields of `t` and the seven flag letters in it.
@@ -74,7 +74,7 @@ fn is_representable(t: ClockTime) -> bool
 // Writes a clock time as a Meinberg PZF string to the front of `out`. Refuses with Unrepresentable (23) if no such
 // string is read as it, then with LentMemory (20) if there is no room for 32 bytes.
 pub fn write_pzf(t: ClockTime, out: &mut [u8]) -> WriteAnswer
-    ensures { λ r. ⌜ outcome r (now (out .exit)) ≡ writePzf t (now (out .entry)) ⌝ }
+    ensures { λ r. ⌜ written r (now (out .exit)) ≡ writePzf t (now (out .entry)) ⌝ }
 {
     let line = text_of(t);
     let representable = calendar::unix_time::is_valid(t) & is_representable(t);

@@ -13,11 +13,11 @@ use Rattle.clock_time.specs.Same.{eqℤ, sameFields, sameTime}
 use Rattle.clock_time.specs.declared.ClockTime.{ClockTime}
 use Rattle.clock_time.proofs.SameLaws.{eqℤ-refl, eqℤ-true, eqb-refl, beq-refl, sameTime-true}
 use Rattle.clock_time.proofs.Tests.{both}
+use Rattle.clock_time.specs.Lists.{ascii}
 use Rattle.calendar.specs.UnixTime.{isValid}
 use Rattle.calendar.proofs.ValidLaws.{zone-in-range}
 use Rattle.decimal.specs.Decimal.{digits}
 use Rattle.decimal.proofs.DecimalLaws.{digit-written}
-use Rattle.layout.specs.Ascii.{ascii}
 use Rattle.layout.specs.Layout.{allowed, fitsFrom, FitsLayout, number}
 use Rattle.layout.proofs.LayoutLaws.{tested-fits}
 use Rattle.layout.proofs.DecideLaws.{letter-fits, letter-read, numbers-written, DecidesClock}

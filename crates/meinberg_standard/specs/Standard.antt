@@ -8,11 +8,11 @@ use lib.ListN.{getD}
 use lib.IntN.{ℤ, pos}
 use Rattle.clock_time.specs.Errors.{Answer}
 use Rattle.clock_time.specs.Same.{eqℤ}
-use Rattle.clock_time.specs.Writing.{Outcome}
+use Rattle.clock_time.specs.Writing.{Written}
 use Rattle.clock_time.specs.declared.ClockTime.{ClockTime}
+use Rattle.clock_time.specs.Lists.{ascii}
 use Rattle.gregorian.specs.Date.{fullYear}
 use Rattle.decimal.specs.Decimal.{digits}
-use Rattle.layout.specs.Ascii.{ascii}
 use Rattle.layout.specs.Layout.{digit, flag, either, places, number, has}
 use Rattle.layout.specs.Text.{Format, clockFormat, readText, writeText, letter}
 
@@ -89,5 +89,5 @@ unfoldable pub readStandard : List ℕ → Answer ClockTime
 readStandard s = readText standard s
 
 -- the writer, by the rule for every time string
-unfoldable pub writeStandard : ClockTime → List ℕ → Outcome
+unfoldable pub writeStandard : ClockTime → List ℕ → Written
 writeStandard t buffer = writeText standard t buffer

@@ -2,7 +2,7 @@
 use clock_time::ClockTime;
 use clock_time::WriteAnswer;
 ghost use mathlib.Core.Path.{_≡_};
-ghost use Rattle.clock_time.specs.Writing.{outcome};
+ghost use Rattle.clock_time.specs.Writing.{written};
 ghost use Rattle.meinberg_standard.specs.Standard.{zoneLetter, announcedLetter, lineWith, standardText};
 ghost use Rattle.meinberg_standard.specs.Standard.{standardRepresentable, writeStandard};
 
@@ -91,7 +91,7 @@ fn is_representable(t: ClockTime) -> bool
 // Writes a clock time as a Meinberg standard string to the front of `out`. Refuses with Unrepresentable (23) if no such
 // string is read as it, then with LentMemory (20) if there is no room for 32 bytes.
 pub fn write_standard(t: ClockTime, out: &mut [u8]) -> WriteAnswer
-    ensures { λ r. ⌜ outcome r (now (out .exit)) ≡ writeStandard t (now (out .entry)) ⌝ }
+    ensures { λ r. ⌜ written r (now (out .exit)) ≡ writeStandard t (now (out .entry)) ⌝ }
 {
     let line = text_of(t);
     let representable = calendar::unix_time::is_valid(t) & is_representable(t);

@@ -17,13 +17,13 @@ fn kind_number(k: Kind) -> u8
     }
 }
 
-// Tells the kind of a string: its number is left behind `kind`, or 1 is returned.
+// EventSays the kind of a string: its number is left behind `kind`, or 1 is returned.
 #[no_mangle]
 pub extern "C" fn radio_clock_kind(s: &[u8], kind: &mut u8) -> u8
     ensures { λ r. ⌜ called r (now (kind .exit)) ≡ answered (now (kind .entry)) (kindNumberOf (now (s .entry))) ⌝ }
 {
     match time_string::kind_of(s) {
-        KindAnswer::Told(k) => {
+        KindAnswer::Kind(k) => {
             *kind = kind_number(k);
             0
         }

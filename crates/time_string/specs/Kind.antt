@@ -30,7 +30,7 @@ kindOf s =
 
 -- the function's answer: a kind, or a refusal with the error's number
 abbrev pub kindAnswer : KindAnswer → Answer Kind
-kindAnswer (kinds.Told k) = accepted k
+kindAnswer (kinds.Kind k) = accepted k
 kindAnswer (kinds.Refused e) = refused (errorNumber e)
 
 -- "A GPS string adds position and height" (01, The reading)

@@ -17,9 +17,9 @@ pub enum Kind {
     Elv,
 }
 
-// The kind that was told, or the error.
+// The kind of a string, or the error.
 pub enum KindAnswer {
-    Told(Kind),
+    Kind(Kind),
     Refused(Error),
 }
 
@@ -30,21 +30,22 @@ pub enum TimeAnswer {
     Refused(Error),
 }
 
-// Tells the kind of a string by its length, and by the byte at place 1 where that does not settle it; else 1.
+// The kind of a string: by its length, and of the two that are 32 long by the byte at place 1. Refuses with Length (1) if
+// no kind has that length.
 pub fn kind_of(s: &[u8]) -> KindAnswer
     ensures { λ r. ⌜ kindAnswer r ≡ kindOf (now (s .entry)) ⌝ }
 {
     if s.len() == 66 {
-        return KindAnswer::Told(Kind::Gps);
+        return KindAnswer::Kind(Kind::Gps);
     }
     if s.len() == 32 {
         if s[1] == b'D' {
-            return KindAnswer::Told(Kind::Standard);
+            return KindAnswer::Kind(Kind::Standard);
         }
-        return KindAnswer::Told(Kind::Pzf);
+        return KindAnswer::Kind(Kind::Pzf);
     }
     if s.len() == 21 {
-        return KindAnswer::Told(Kind::Elv);
+        return KindAnswer::Kind(Kind::Elv);
     }
     KindAnswer::Refused(Error::Length)
 }

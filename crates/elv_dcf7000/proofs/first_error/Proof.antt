@@ -1,5 +1,5 @@
 use borrow.Author.Needs.{needs}
-use Rattle.layout.specs.Ascii.{ascii}
+use Rattle.clock_time.specs.Lists.{ascii}
 use Rattle.elv_dcf7000.specs.Elv.{elvLayout}
 use Rattle.elv_dcf7000.proofs.first_error.Statement.{statement}
 use Rattle.elv_dcf7000.proofs.first_error.Tie as tie

@@ -1,5 +1,5 @@
 use borrow.Author.Needs.{needs}
-use Rattle.layout.specs.Ascii.{ascii}
+use Rattle.clock_time.specs.Lists.{ascii}
 use Rattle.layout.proofs.TextLaws.{reading}
 use Rattle.elv_dcf7000.specs.Elv.{elvLayout, elv, readElv}
 use Rattle.elv_dcf7000.proofs.read_elv.Statement.{statement}

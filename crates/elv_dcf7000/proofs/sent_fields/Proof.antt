@@ -2,7 +2,7 @@ use borrow.Author.Needs.{needs, sfits-of}
 use mir.Syntax.{w16}
 use mir.Val.{SFits}
 use mir.Facts.{toZ-ofZ}
-use Rattle.layout.specs.Ascii.{ascii}
+use Rattle.clock_time.specs.Lists.{ascii}
 use Rattle.layout.proofs.PairLaws.{numbers-fit}
 use Rattle.elv_dcf7000.specs.Elv.{elvLayout, sentFields}
 use Rattle.elv_dcf7000.proofs.ElvLaws.{flags-read}

@@ -1,7 +1,7 @@
 use borrow.Author.Needs.{needs}
+use Rattle.clock_time.specs.Lists.{ascii}
 use Rattle.decimal.specs.Decimal.{digits}
 use Rattle.decimal.proofs.PairLaws.{first-byte, second-byte}
-use Rattle.layout.specs.Ascii.{ascii}
 use Rattle.layout.specs.Text.{clockDigits}
 use Rattle.elv_dcf7000_writer.proofs.line_with.Statement.{statement}
 use Rattle.elv_dcf7000_writer.proofs.line_with.Tie as tie

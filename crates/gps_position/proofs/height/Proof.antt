@@ -1,7 +1,7 @@
 use borrow.Author.Needs.{needs}
 use native.Mathlib.Omega.{arith}
 use denote.Ref.{now}
-use Rattle.layout.specs.Layout.{run}
+use Rattle.clock_time.specs.Lists.{slice}
 use Rattle.gps_position.proofs.AlignedLaws.{value-small}
 use Rattle.gps_position.proofs.PositionLaws.{position-digits}
 use Rattle.gps_position.proofs.height.Statement.{statement}
@@ -16,7 +16,7 @@ cast-result : tie.Need-cast-result
 cast-result c =
     let x = c .before .before .before .before .before .before in
     let plain = position-digits (now (x .args .s)) (x .pre .1) .height-plain in
-    omega (arith, value-small (run 60 4 (now (x .args .s))) plain, c .four .ensures)
+    omega (arith, value-small (slice 60 4 (now (x .args .s))) plain, c .four .ensures)
 
 pub height-spec : {M : Type 1} → statement M
 height-spec =

@@ -1,6 +1,6 @@
 use borrow.Author.Needs.{needs}
 use lib.Dec.{lit<}
-use Rattle.layout.specs.Ascii.{ascii}
+use Rattle.clock_time.specs.Lists.{ascii}
 use Rattle.gps_position.proofs.PositionWrittenLaws.{position-parts}
 use Rattle.gps_position.proofs.position_text.Statement.{statement}
 use Rattle.gps_position.proofs.position_text.Tie as tie

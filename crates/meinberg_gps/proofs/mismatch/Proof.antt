@@ -1,5 +1,5 @@
 use borrow.Author.Needs.{needs}
-use Rattle.layout.specs.Ascii.{ascii}
+use Rattle.clock_time.specs.Lists.{ascii}
 use Rattle.layout.proofs.PairLaws.{numbers-fit}
 use Rattle.meinberg_gps.specs.Gps.{gpsLayout, leapMismatch}
 use Rattle.meinberg_gps.proofs.mismatch.Statement.{statement}

@@ -1,5 +1,5 @@
 use borrow.Author.Needs.{needs}
-use Rattle.layout.specs.Ascii.{ascii}
+use Rattle.clock_time.specs.Lists.{ascii}
 use Rattle.layout.proofs.TextLaws.{reading}
 use Rattle.meinberg_gps.specs.Gps.{gpsLayout, gps, readGps}
 use Rattle.meinberg_gps.proofs.read_gps.Statement.{statement}

@@ -1,5 +1,5 @@
 use borrow.Author.Needs.{needs}
-use Rattle.layout.specs.Ascii.{ascii}
+use Rattle.clock_time.specs.Lists.{ascii}
 use Rattle.layout.proofs.TextLaws.{reading}
 use Rattle.meinberg_pzf.specs.Pzf.{pzfLayout, pzf, readPzf}
 use Rattle.meinberg_pzf.proofs.read_pzf.Statement.{statement}

@@ -1,6 +1,6 @@
 use borrow.Author.Needs.{needs}
+use Rattle.clock_time.specs.Lists.{ascii}
 use Rattle.decimal.specs.Decimal.{digits}
-use Rattle.layout.specs.Ascii.{ascii}
 use Rattle.layout.specs.Text.{clockDigits}
 use Rattle.meinberg_pzf_writer.proofs.line_with.Statement.{statement}
 use Rattle.meinberg_pzf_writer.proofs.line_with.Tie as tie

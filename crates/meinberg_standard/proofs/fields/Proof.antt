@@ -2,7 +2,7 @@ use borrow.Author.Needs.{needs, sfits-of}
 use mir.Syntax.{w16}
 use mir.Val.{SFits}
 use mir.Facts.{toZ-ofZ}
-use Rattle.layout.specs.Ascii.{ascii}
+use Rattle.clock_time.specs.Lists.{ascii}
 use Rattle.layout.proofs.PairLaws.{numbers-fit, low-digit}
 use Rattle.meinberg_standard.specs.Standard.{standardLayout, standardFields}
 use Rattle.meinberg_standard.proofs.fields.Statement.{statement}

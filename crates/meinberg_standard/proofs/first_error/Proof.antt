@@ -1,5 +1,5 @@
 use borrow.Author.Needs.{needs}
-use Rattle.layout.specs.Ascii.{ascii}
+use Rattle.clock_time.specs.Lists.{ascii}
 use Rattle.meinberg_standard.specs.Standard.{standardLayout}
 use Rattle.meinberg_standard.proofs.first_error.Statement.{statement}
 use Rattle.meinberg_standard.proofs.first_error.Tie as tie

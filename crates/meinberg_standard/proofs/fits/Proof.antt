@@ -3,8 +3,8 @@ use borrow.Author.Needs.{needs}
 use mathlib.Core.Bool.{true}
 use mathlib.Core.List.{[], _∷_}
 use denote.Ref.{now}
+use Rattle.clock_time.specs.Lists.{ascii}
 use Rattle.decimal.specs.Decimal.{isDigit}
-use Rattle.layout.specs.Ascii.{ascii}
 use Rattle.layout.specs.Layout.{allowed, fitsFrom}
 use Rattle.layout.specs.Words.{enough, samplePlace, sampleFits}
 use Rattle.layout.proofs.PartLaws.{parts-fit}

@@ -1,5 +1,5 @@
 use borrow.Author.Needs.{needs}
-use Rattle.layout.specs.Ascii.{ascii}
+use Rattle.clock_time.specs.Lists.{ascii}
 use Rattle.layout.proofs.TextLaws.{reading}
 use Rattle.meinberg_standard.specs.Standard.{standardLayout, standard, readStandard}
 use Rattle.meinberg_standard.proofs.read_standard.Statement.{statement}

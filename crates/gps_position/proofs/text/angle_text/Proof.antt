@@ -1,8 +1,8 @@
 use borrow.Author.Needs.{needs}
 use lib.Dec.{lit<}
 use mir.Facts.{toZ-ofZ}
+use Rattle.clock_time.specs.Lists.{ascii}
 use Rattle.decimal.specs.Decimal.{digits}
-use Rattle.layout.specs.Ascii.{ascii}
 use Rattle.gps_position.specs.Aligned.{padded, aligned}
 use Rattle.gps_position.specs.Position.{angleBytes}
 use Rattle.gps_position.proofs.text.angle_text.Statement.{statement}

@@ -1,7 +1,7 @@
 use borrow.Author.Needs.{needs}
 use native.Mathlib.Omega.{arith}
 use mathlib.Core.Path.{refl}
-use Rattle.layout.specs.Ascii.{ascii}
+use Rattle.clock_time.specs.Lists.{ascii}
 use Rattle.listing.specs.Items.{itemLine}
 use Rattle.listing.proofs.ItemsLaws.{number-below, shows-line}
 use Rattle.listing.proofs.entry.line_of.Statement.{statement}

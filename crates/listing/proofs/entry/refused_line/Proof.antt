@@ -1,6 +1,6 @@
 use borrow.Author.Needs.{needs}
 use native.Mathlib.Omega.{arith}
-use Rattle.layout.specs.Ascii.{ascii}
+use Rattle.clock_time.specs.Lists.{ascii}
 use Rattle.listing.specs.Items.{itemLine}
 use Rattle.listing_lines.proofs.NumeralLaws.{numeral-one, numeral-two}
 use Rattle.listing.proofs.entry.refused_line.Statement.{statement}

@@ -1,6 +1,6 @@
 use borrow.Author.Needs.{needs}
 use mathlib.Core.Path.{refl}
-use Rattle.layout.specs.Ascii.{ascii}
+use Rattle.clock_time.specs.Lists.{ascii}
 use Rattle.listing_lines.proofs.LastLineLaws.{extends-line}
 use Rattle.listing_lines.proofs.last_line.line_of.Statement.{statement}
 use Rattle.listing_lines.proofs.last_line.line_of.Tie as tie

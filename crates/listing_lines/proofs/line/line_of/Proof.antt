@@ -4,9 +4,9 @@ use mir.Syntax.{w16}
 use mir.Val.{SFits}
 use mir.Facts.{toZ-ofZ}
 use borrow.Author.Needs.{sfits-of}
+use Rattle.clock_time.specs.Lists.{ascii}
 use Rattle.decimal.specs.Decimal.{digits}
 use Rattle.decimal.proofs.PairLaws.{first-byte, second-byte}
-use Rattle.layout.specs.Ascii.{ascii}
 use Rattle.layout.specs.Text.{clockDigits}
 use Rattle.listing_lines.specs.Line.{lineWith}
 use Rattle.listing_lines.proofs.LineLaws.{line-parts}

@@ -1,7 +1,7 @@
 use borrow.Author.Needs.{needs}
 use mathlib.Core.Path.{refl}
 use lib.Dec.{lit≤}
-use Rattle.layout.specs.Ascii.{ascii}
+use Rattle.clock_time.specs.Lists.{ascii}
 use Rattle.layout.proofs.PairLaws.{numbers-two}
 use Rattle.meinberg_gps.specs.Gps.{gpsLayout, offsetFault}
 use Rattle.meinberg_gps.proofs.offset.is_faulty.Statement.{statement}

@@ -1,5 +1,5 @@
 use borrow.Author.Needs.{needs}
-use Rattle.layout.specs.Ascii.{ascii}
+use Rattle.clock_time.specs.Lists.{ascii}
 use Rattle.meinberg_gps.specs.Gps.{gpsLayout}
 use Rattle.meinberg_gps.proofs.table.first_error.Statement.{statement}
 use Rattle.meinberg_gps.proofs.table.first_error.Tie as tie

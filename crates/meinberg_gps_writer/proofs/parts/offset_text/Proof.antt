@@ -1,10 +1,10 @@
 use borrow.Author.Needs.{needs}
 use mir.Syntax.{w32}
 use mir.Facts.{toZ-ofZ, sfits-widen}
+use Rattle.clock_time.specs.Lists.{ascii}
 use Rattle.calendar.proofs.SignedLaws.{widened}
 use Rattle.decimal.specs.Decimal.{digits}
 use Rattle.decimal.proofs.PairLaws.{first-byte, second-byte}
-use Rattle.layout.specs.Ascii.{ascii}
 use Rattle.meinberg_gps.specs.Gps.{offsetText}
 use Rattle.meinberg_gps_writer.proofs.parts.offset_text.Statement.{statement}
 use Rattle.meinberg_gps_writer.proofs.parts.offset_text.Tie as tie

@@ -1,6 +1,6 @@
 use mathlib.Core.Path.{refl}
 use lib.Dec.{lit<}
-use Rattle.layout.specs.Ascii.{ascii}
+use Rattle.clock_time.specs.Lists.{ascii}
 use Rattle.meinberg_gps.specs.Gps.{lineWith}
 use Rattle.meinberg_gps_writer.proofs.text.line_with.Statement.{statement}
 use Rattle.meinberg_gps_writer.proofs.text.line_with.Tie as tie

@@ -1,4 +1,4 @@
--- A feed over all of s, read, counted and with its line, is what the listing tells of s.
+-- A feed over all of s, read, counted and with its line, is what the listing lists-next of s.
 use Prim.Native.Nat.{ℕ, _≤_}
 use native.Mathlib.Omega.{arith}
 use mathlib.Core.Path.{_≡_, refl, sym, ap, _∙_}
@@ -13,7 +13,7 @@ use Rattle.listing.specs.declared.Listing.{Listing}
 use Rattle.listing_lines.specs.declared.Totals.{Totals}
 use Rattle.listing.specs.declared.entry.Line.{Line}
 use Rattle.listing.specs.Items.{Item, Within, itemOf, itemLine, Shows, counted}
-use Rattle.listing.specs.Told.{Tells}
+use Rattle.listing.specs.NextLine.{ListsNext}
 use Rattle.listing.proofs.ListingLaws.{Agrees, agrees}
 
 within-few : (a : FeedAnswer) (bytes : List ℕ) → length bytes ≡ 66 → ((n : ℕ) → a ≡ complete n → n ≤ 66)
@@ -27,26 +27,26 @@ module _ (l : Listing) (s : List ℕ) (r : Fed) (e : fed r ≡ feedOf (l .framer
   whole = rw take-length at e
 
   -- a complete string is no longer than the bytes of the state
-  pub told-within : length (r .framer .bytes) ≡ 66 → Within (fed r .answer) (r .framer .bytes)
-  told-within size =
+  pub next-within : length (r .framer .bytes) ≡ 66 → Within (fed r .answer) (r .framer .bytes)
+  next-within size =
       within-few (fed r .answer) (r .framer .bytes) size
       (λ n q. feed-complete (l .framer) s n (sym (ap (λ (f : Feeding). f .answer) whole) ∙ q) .1)
 
-  told-agrees : Agrees l s (fed r)
-  told-agrees = rw whole (agrees s l)
+  next-agrees : Agrees l s (fed r)
+  next-agrees = rw whole (agrees s l)
 
-  pub tells : (i : Item) → i ≡ itemOf (r .framer .bytes) (fed r .answer)
+  pub lists-next : (i : Item) → i ≡ itemOf (r .framer .bytes) (fed r .answer)
       → (totals : Totals) → totals ≡ counted (l .totals) i → (line : Line) → Shows line i
-      → Tells l s (record { listing = record { framer = r .framer; totals = totals }; line = line; taken = r .taken })
-  tells i q totals t line shows =
+      → ListsNext l s (record { listing = record { framer = r .framer; totals = totals }; line = line; taken = r .taken })
+  lists-next i q totals t line shows =
       record {
         within = rw taken (feed-taken (l .framer) s (length s) .0);
         some = λ h. rw taken (feed-taken (l .framer) s (length s) .1 h h);
         short = shows .short;
         fits = shows .fits;
-        text = shows .line ∙ ap itemLine q ∙ sym (told-agrees .text);
-        state = listing ∙ sym (told-agrees .state);
-        goes = λ room h. rw (listing, size) (told-agrees .goes room h);
+        text = shows .line ∙ ap itemLine q ∙ sym (next-agrees .text);
+        state = listing ∙ sym (next-agrees .state);
+        goes = λ room h. rw (listing, size) (next-agrees .goes room h);
       }
     where
       taken : r .taken ≡ feedOf (l .framer) (take (length s) s) .taken

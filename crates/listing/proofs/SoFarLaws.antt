@@ -8,12 +8,12 @@ use lib.ListN.{length, take, drop, length-drop, length-append, drop-of-length-le
 use lib.Seq.{take-add, take-at, drop-at, paste, drop-drop, length-paste, length-take-le}
 use Rattle.framing.proofs.FeedLaws.{rest}
 use Rattle.listing.specs.declared.Listing.{Listing}
-use Rattle.listing.specs.declared.Told.{Told}
+use Rattle.listing.specs.declared.LineResult.{LineResult}
 use Rattle.listing.specs.Listing.{after, textOf, takenOf, taking, listedInto, listOf}
-use Rattle.listing.specs.Told.{Tells}
+use Rattle.listing.specs.NextLine.{ListsNext}
 use Rattle.listing.proofs.ListingLaws.{after-append, text-append, taken-full, taken-end}
 
-pub record Written (l : Listing) (s buffer : List ℕ) (i at : ℕ) (now : Listing) (out : List ℕ) : Type 0 where
+pub record ListedSoFar (l : Listing) (s buffer : List ℕ) (i at : ℕ) (now : Listing) (out : List ℕ) : Type 0 where
   pub within : i ≤ length s
   pub fits : at ≤ length buffer
   pub same : length out ≡ length buffer
@@ -22,9 +22,9 @@ pub record Written (l : Listing) (s buffer : List ℕ) (i at : ℕ) (now : Listi
   pub state : now ≡ after l (take i s)
   pub goes : takenOf l s (length buffer) ≡ i + takenOf now (drop i s) (length buffer - at)
 
-pub written-none : (l : Listing) (s buffer : List ℕ) → Written l s buffer 0 0 l buffer
+pub so-far-none : (l : Listing) (s buffer : List ℕ) → ListedSoFar l s buffer 0 0 l buffer
 unfolding after textOf
-written-none l s buffer =
+so-far-none l s buffer =
     record {
       within = omega arith;
       fits = omega arith;
@@ -36,29 +36,29 @@ written-none l s buffer =
     }
 
 -- a turn of the loop takes some bytes, no more than there are, and puts their line, which has room
-pub record Turn (l : Listing) (s buffer : List ℕ) (i at : ℕ) (out : List ℕ) (r : Told) : Type 0 where
+pub record Turn (l : Listing) (s buffer : List ℕ) (i at : ℕ) (out : List ℕ) (r : LineResult) : Type 0 where
   pub some : 0 < r .taken
   pub within : i + r .taken ≤ length s
   pub fits : at + r .line .length ≤ length out
-  pub more : Written l s buffer (i + r .taken) (at + r .line .length) (r .listing)
+  pub more : ListedSoFar l s buffer (i + r .taken) (at + r .line .length) (r .listing)
       (paste out at (r .line .text) (r .line .length))
 
 module _
     (l : Listing) (s buffer : List ℕ) (i at : ℕ) (now : Listing) (out : List ℕ)
-    (w : Written l s buffer i at now out)
+    (w : ListedSoFar l s buffer i at now out)
   where
     module _
-        (r : Told) (q : i < length s) (room : 35 ≤ length out - at)
-        (t : Tells now (take (length s - i) (drop i s)) r)
+        (r : LineResult) (q : i < length s) (room : 35 ≤ length out - at)
+        (t : ListsNext now (take (length s - i) (drop i s)) r)
       where
-        told : Tells now (drop i s) r
+        told : ListsNext now (drop i s) r
         told = rw (rest s i) at t
 
-        written-within : i + r .taken ≤ length s
-        written-within = omega (arith, told .within, length-drop i s)
+        so-far-within : i + r .taken ≤ length s
+        so-far-within = omega (arith, told .within, length-drop i s)
 
-        written-fits : at + r .line .length ≤ length out
-        written-fits = omega (arith, told .short)
+        so-far-fits : at + r .line .length ≤ length out
+        so-far-fits = omega (arith, told .short)
 
         abbrev more : List ℕ
         more = take (r .line .length) (r .line .text)
@@ -80,13 +80,13 @@ module _
             (ap (drop at) (w .text) ∙ drop-at (textOf l (take i s)) (drop at buffer) at (sym (w .size)))
             ∙ drop-drop (r .line .length) at buffer
 
-        written-more : Written l s buffer (i + r .taken) (at + r .line .length) (r .listing)
+        so-far-more : ListedSoFar l s buffer (i + r .taken) (at + r .line .length) (r .listing)
             (paste out at (r .line .text) (r .line .length))
-        written-more =
+        so-far-more =
             record {
-              within = written-within;
-              fits = omega (arith, written-fits, w .same);
-              same = length-paste out at (r .line .text) (r .line .length) written-fits (told .fits) ∙ w .same;
+              within = so-far-within;
+              fits = omega (arith, so-far-fits, w .same);
+              same = length-paste out at (r .line .text) (r .line .length) so-far-fits (told .fits) ∙ w .same;
               size =
                   ap (λ (n : ℕ). at + n) (sym (length-take-le (r .line .length) (r .line .text) (told .fits)))
                   ∙ ap (λ (n : ℕ). n + length more) (w .size)
@@ -108,15 +108,15 @@ module _
         turn =
             record {
               some = told .some (omega (arith, length-drop i s));
-              within = written-within;
-              fits = written-fits;
-              more = written-more;
+              within = so-far-within;
+              fits = so-far-fits;
+              more = so-far-more;
             }
 
-    written-taken : takenOf now (drop i s) (length buffer - at) ≡ 0
+    so-far-taken : takenOf now (drop i s) (length buffer - at) ≡ 0
         → listedInto (record { listing = now; taken = i; length = at }) out ≡ listOf l s buffer
     unfolding listOf
-    written-taken z =
+    so-far-taken z =
         same-listed ∙ ap (taking l s buffer) (sym (w .goes ∙ ap (λ (n : ℕ). i + n) z ∙ add-zero i))
       where
         buffers : out ≡ textOf l (take i s) ++ drop (length (textOf l (take i s))) buffer
@@ -126,11 +126,11 @@ module _
         same-listed j = record { listing = w .state j; taken = i; length = w .size j; buffer = buffers j }
 
     -- the loop ends at the bytes' end
-    pub written-end : length s ≤ i
+    pub so-far-end : length s ≤ i
         → listedInto (record { listing = now; taken = i; length = at }) out ≡ listOf l s buffer
-    written-end h = written-taken (rw (drop-of-length-le s h) (taken-end now (length buffer - at)))
+    so-far-end h = so-far-taken (rw (drop-of-length-le s h) (taken-end now (length buffer - at)))
 
     -- or where there is no room for any line
-    pub written-full : length out - at < 35
+    pub so-far-full : length out - at < 35
         → listedInto (record { listing = now; taken = i; length = at }) out ≡ listOf l s buffer
-    written-full h = written-taken (taken-full now (drop i s) (length buffer - at) (omega (arith, w .same)))
+    so-far-full h = so-far-taken (taken-full now (drop i s) (length buffer - at) (omega (arith, w .same)))

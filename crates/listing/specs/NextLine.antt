@@ -5,11 +5,11 @@ use mathlib.Core.List.{List}
 use lib.ListN.{length, take, drop}
 use Rattle.listing.specs.Listing.{after, textOf, takenOf}
 use Rattle.listing.specs.declared.Listing.{Listing}
-use Rattle.listing.specs.declared.Told.{Told}
+use Rattle.listing.specs.declared.LineResult.{LineResult}
 
 -- of s some bytes are taken where there are any; the line is their text, the state that after them, and where there is
 -- room for any line the listing takes them and goes on from there
-pub record Tells (l : Listing) (s : List ℕ) (r : Told) : Type 0 where
+pub record ListsNext (l : Listing) (s : List ℕ) (r : LineResult) : Type 0 where
   pub within : r .taken ≤ length s
   pub some : 0 < length s → 0 < r .taken
   pub short : r .line .length ≤ 35

@@ -1,6 +1,7 @@
 -- Laws of the definitions, and the main results.
 pub mod SignedLaws
 pub mod ValidLaws
+pub mod RepresentableLaws
 pub mod RulesLaws
 pub mod MidnightLaws
 pub mod Theorems

@@ -8,7 +8,7 @@ use lib.IntN.{ℤ, pos, negsuc, negℤ, _+ℤ_, _-ℤ_, _*ℤ_, zero-*ℤ, suc�
 use lib.IntN.{+ℤ-negℤ-cancel, -ℤ-+ℤ-cancel}
 use Rattle.clock_time.specs.declared.ClockTime.{ClockTime}
 use Rattle.gregorian.specs.Date.{daysSinceEpoch}
-use Rattle.calendar.specs.UnixTime.{isValid, instantOf}
+use Rattle.calendar.specs.UnixTime.{isReading, instantOf}
 use Rattle.calendar.proofs.RulesLaws.{time-exactly}
 use Rattle.calendar.proofs.ValidLaws.{valid}
 
@@ -72,7 +72,7 @@ midnight days hour minute second offset d e sixty =
     next : 86400 * days + 60 + 86340 ≡ 86400 * (days + 1)
     next = omega arith
 
-pub second-60-midnight : (t : ClockTime) → isValid t ≡ true → t .second ≡ 60
+pub second-60-midnight : (t : ClockTime) → isReading t ≡ true → t .second ≡ 60
     → (days : ℤ) × (instantOf t ≡ pos 86400 *ℤ days)
 unfolding instantOf
 second-60-midnight t h sixty =

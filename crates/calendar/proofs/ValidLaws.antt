@@ -1,4 +1,4 @@
--- What a valid reading has, and when a reading with a year of two digits is one.
+-- What a valid reading has.
 use Prim.Native.Nat.{ℕ, _%_, _≤_, _<_}
 use native.Mathlib.Omega.{arith}
 use mathlib.Core.Path.{_≡_, refl}
@@ -10,7 +10,7 @@ use Rattle.clock_time.specs.declared.ClockTime.{ClockTime}
 use Rattle.clock_time.proofs.Tests.{both}
 use Rattle.gregorian.specs.Date.{dateExists, fullYear, supportedDate}
 use Rattle.calendar.specs.TimeOfDay.{timeExists, utcMinute}
-use Rattle.calendar.specs.UnixTime.{offsetInRange, isValid}
+use Rattle.calendar.specs.UnixTime.{offsetInRange, isReading}
 use Rattle.gregorian.proofs.DateLaws.{Known, known, supported-exists}
 
 pub sixty-most : (second : ℕ) (b : Bool) → (ltb second 60 || eqb second 60 && b) ≡ true → second ≤ 60
@@ -36,8 +36,8 @@ pub record Valid (t : ClockTime) : Type 0 where
   pub weekday-most : t .weekday ≤ 7
   pub offset : offsetInRange (t .«utc_offset») ≡ true
 
-pub valid : (t : ClockTime) → isValid t ≡ true → Valid t
-unfolding isValid timeExists
+pub valid : (t : ClockTime) → isReading t ≡ true → Valid t
+unfolding isReading timeExists
 valid t h =
     let date = supportedDate (t .year) (t .month) (t .day) in
     let time = timeExists (t .hour) (t .minute) (t .second) (t .«utc_offset») in
@@ -61,16 +61,6 @@ valid t h =
       weekday-most = leb-true (t .weekday) 7 (weekday-most .1);
       offset = offset .1;
     }
-
--- a reading whose year comes from two digits, and which passes the checks of date, time and weekday, is valid if its
--- offset is in range
-pub checked-valid : (t : ClockTime) (n : ℕ) → t .year ≡ fullYear n → dateExists (t .year) (t .month) (t .day) ≡ true
-    → timeExists (t .hour) (t .minute) (t .second) (t .«utc_offset») ≡ true → 1 ≤ t .weekday → t .weekday ≤ 7
-    → offsetInRange (t .«utc_offset») ≡ true → isValid t ≡ true
-unfolding isValid
-checked-valid t n y date time weekday-least weekday-most offset =
-    let supported-date = rw (← y) at (supported-exists n (t .month) (t .day)) in
-    simp (supported-date, date, time, le-leb _ _ weekday-least, le-leb _ _ weekday-most, offset)
 
 -- the year from 1970 to 2069 that ends in the last two digits of one of these years is that year
 pub year-back : (y : ℕ) → 1970 ≤ y → y ≤ 2069 → fullYear (y % 100) ≡ y

@@ -2,4 +2,5 @@
 pub mod DateAnswer
 pub mod TimeOfDay
 pub mod UnixTime
+pub mod Representable
 pub mod Rules

@@ -16,8 +16,8 @@ unfoldable pub offsetInRange : ℤ → Bool
 offsetInRange offset = leb (natAbs offset) 840
 
 -- "year 1970 to 2069, a date, a time of day, weekday 1..7, offset at most 840 minutes either way" (01, The reading)
-unfoldable pub isValid : ClockTime → Bool
-isValid t =
+unfoldable pub isReading : ClockTime → Bool
+isReading t =
     supportedDate (t .year) (t .month) (t .day)
     && timeExists (t .hour) (t .minute) (t .second) (t .«utc_offset»)
     && leb 1 (t .weekday)
@@ -34,7 +34,7 @@ instantOf t =
 
 -- "Refused with 23 where the fields are no valid reading" (01, The reading)
 unfoldable pub unixTime : ClockTime → Answer ℤ
-unixTime t = checked (given 23 (not (isValid t)) ∷ []) (instantOf t)
+unixTime t = checked (given 23 (not (isReading t)) ∷ []) (instantOf t)
 
 -- the function's answer: an instant, or a refusal with the error's number
 abbrev pub unixTimeAnswer : UnixTime → Answer ℤ

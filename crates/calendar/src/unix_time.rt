@@ -7,7 +7,7 @@ ghost use mathlib.Core.Path.{_≡_};
 ghost use mathlib.Core.Bool.{true};
 ghost use Prim.Native.Nat.{_<_};
 ghost use lib.IntN.{pos, _-ℤ_, _*ℤ_};
-ghost use Rattle.calendar.specs.UnixTime.{offsetInRange, isValid, instantOf, unixTime, unixTimeAnswer};
+ghost use Rattle.calendar.specs.UnixTime.{offsetInRange, isReading, instantOf, unixTime, unixTimeAnswer};
 
 // Seconds from 1 January 1970 00:00:00 UTC, or the error.
 pub enum UnixTime {
@@ -23,8 +23,8 @@ pub fn offset_in_range(offset: i16) -> bool
 }
 
 // True where the fields of a clock time are those of a reading; the flags play no part.
-pub fn is_valid(t: ClockTime) -> bool
-    ensures { λ r. ⌜ r ≡ isValid t ⌝ }
+pub fn is_reading(t: ClockTime) -> bool
+    ensures { λ r. ⌜ r ≡ isReading t ⌝ }
 {
     if gregorian::is_supported_date(t.year, t.month, t.day) {
         if (1 <= t.weekday) & (t.weekday <= 7) & offset_in_range(t.utc_offset) {
@@ -43,7 +43,7 @@ fn to_utc(local: u64, offset: i16) -> i64
 }
 
 fn instant_of(t: ClockTime) -> i64
-    requires { ⌜ isValid t ≡ true ⌝ }
+    requires { ⌜ isReading t ≡ true ⌝ }
     ensures { λ r. ⌜ r ≡ instantOf t ⌝ }
 {
     let days = date::days_since_epoch(t.year, t.month, t.day);
@@ -56,7 +56,7 @@ fn instant_of(t: ClockTime) -> i64
 pub fn unix_time(t: ClockTime) -> UnixTime
     ensures { λ r. ⌜ unixTimeAnswer r ≡ unixTime t ⌝ }
 {
-    if is_valid(t) {
+    if is_reading(t) {
         return UnixTime::At(instant_of(t));
     }
     UnixTime::Refused(Error::Unrepresentable)

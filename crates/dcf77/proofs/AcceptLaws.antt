@@ -11,10 +11,12 @@ use Rattle.clock_time.specs.Errors.{accepted, Check, Passes}
 use Rattle.clock_time.proofs.ErrorLaws.{accepted-passes, passes-accepted}
 use Rattle.clock_time.proofs.ExactLaws.{passes-exactly}
 use Rattle.gregorian.proofs.RulesLaws.{date-exactly}
-use Rattle.calendar.specs.UnixTime.{isValid}
+use Rattle.calendar.specs.UnixTime.{isReading}
+use Rattle.calendar.specs.Representable.{isRepresentable}
 use Rattle.calendar.specs.Rules.{ReadingRules}
 use Rattle.calendar.proofs.RulesLaws.{time-exactly, weekday-exactly}
-use Rattle.calendar.proofs.ValidLaws.{checked-valid, zone-in-range}
+use Rattle.calendar.proofs.ValidLaws.{zone-in-range}
+use Rattle.calendar.proofs.RepresentableLaws.{representable-reading, checked-representable}
 use Rattle.dcf77.specs.Marks.{long, twoDigits}
 use Rattle.dcf77.specs.Minute.{announced, minuteFields, minuteChecks, readMinute}
 use Rattle.dcf77.specs.Says.{RunRules, LeapRule}
@@ -102,12 +104,16 @@ module _ (m : List ℕ) where
   pub read-exactly : (a : MinuteTime) → (readMinute m ≡ accepted a) ↔ AcceptsMinute m a
   read-exactly a = (read-accepts a, accepts-read a)
 
-  pub read-valid : (a : MinuteTime) → readMinute m ≡ accepted a → isValid (a .time) ≡ true
-  unfolding minuteFields announced
-  read-valid a h =
-      let w = read-keeps a h in
-      let t = w .0 .1 in
+  pub keeps-representable : KeepsRules m → isRepresentable (announced m) ≡ true
+  unfolding announced
+  keeps-representable k =
+      let t = k .1 in
       let date = date-exactly _ _ _ .1 (t .date) in
       let time = time-exactly _ _ _ _ .1 (t .time) in
-      let zone = zone-in-range false (long 17 m) in
-      rw (w .1) (checked-valid (announced m) (twoDigits 50 4 m) refl date time (t .weekday-least) (t .weekday-most) zone)
+      checked-representable (announced m) (twoDigits 50 4 m) refl date time (t .weekday-least) (t .weekday-most)
+      (zone-in-range false (long 17 m))
+
+  pub read-valid : (a : MinuteTime) → readMinute m ≡ accepted a → isReading (a .time) ≡ true
+  unfolding minuteFields
+  read-valid a h =
+      let w = read-keeps a h in rw (w .1) (representable-reading (announced m) (keeps-representable (w .0)))

@@ -2,12 +2,14 @@
 use Prim.Native.Nat.{ℕ, _≤_, _<_}
 use mathlib.Core.Path.{_≡_, ap}
 use mathlib.Core.Bool.{Bool, true, false, cond, not, _&&_, false≢true}
-use lib.Dec.{leb, ltb, eqb}
+use lib.Dec.{ltb, eqb}
 use lib.IntN.{ℤ, pos, negsuc}
-use borrow.Author.Tests.{not-true, eqb-true, leb-true, ltb-true}
+use borrow.Author.Tests.{not-true, eqb-true, ltb-true}
 use Rattle.clock_time.specs.Same.{eqℤ}
 use Rattle.clock_time.proofs.Tests.{both}
 use Rattle.gregorian.specs.Date.{supportedDate}
+use Rattle.calendar.specs.Representable.{isRepresentable}
+use Rattle.calendar.proofs.RepresentableLaws.{represented}
 use Rattle.dcf77.specs.Writable.{fieldsRepresentable, minuteRepresentable}
 use Rattle.dcf77.specs.declared.MinuteTime.{MinuteTime}
 
@@ -40,24 +42,21 @@ unfolding minuteRepresentable fieldsRepresentable
 fits a h =
     let t = a .time in
     let zone = eqℤ (t .«utc_offset») (cond (t .«summer_time») (pos 120) (pos 60)) in
-    let z = both _ zone h in
-    let k = both _ (supportedDate (t .year) (t .month) (t .day)) (z .0) in
-    let j = both _ (not (a .detail .sixty && not (t .«leap_second_announced» && eqb (t .minute) 0))) (k .0) in
+    let k = both _ (isRepresentable t) h in
+    let z = both (fieldsRepresentable a) zone (k .0) in
+    let r = represented t (k .1) in
+    let j = both _ (not (a .detail .sixty && not (t .«leap_second_announced» && eqb (t .minute) 0))) (z .0) in
     let i = both _ (ltb (a .detail .«first_marks») 16384) (j .0) in
     let g = both _ (not (t .unverified)) (i .0) in
-    let f = both _ (not (t .unsynchronised)) (g .0) in
-    let e = both _ (eqb (t .second) 0) (f .0) in
-    let d = both _ (ltb (t .minute) 60) (e .0) in
-    let c = both _ (ltb (t .hour) 24) (d .0) in
-    let b = both (leb 1 (t .weekday)) (leb (t .weekday) 7) (c .0) in
+    let f = both (eqb (t .second) 0) (not (t .unsynchronised)) (g .0) in
     record {
-      supported-date = k .1;
+      supported-date = r .supported-date;
       zone = zone-told (t .«utc_offset») (t .«summer_time») (z .1);
-      weekday-least = leb-true _ _ (b .0);
-      weekday-most = leb-true _ _ (b .1);
-      hour = ltb-true _ _ (c .1);
-      minute = ltb-true _ _ (d .1);
-      second = eqb-true _ _ (e .1);
+      weekday-least = r .weekday-least;
+      weekday-most = r .weekday-most;
+      hour = r .hour;
+      minute = r .minute;
+      second = eqb-true _ _ (f .0);
       synchronised = not-true _ (f .1);
       verified = not-true _ (g .1);
       marks = ltb-true _ _ (i .1);

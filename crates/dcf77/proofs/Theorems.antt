@@ -9,7 +9,7 @@ use Rattle.clock_time.specs.Order.{Gives}
 use Rattle.clock_time.specs.Faithful.{Faithful}
 use Rattle.clock_time.proofs.BackLaws as writing
 use Rattle.clock_time.proofs.OrderLaws.{refused-exactly}
-use Rattle.calendar.specs.UnixTime.{isValid}
+use Rattle.calendar.specs.UnixTime.{isReading}
 use Rattle.calendar.specs.Rules.{ReadingRules}
 use Rattle.dcf77.specs.Minute.{minuteFields, minuteChecks, readMinute, minuteText, sameMinute, writeMinute}
 use Rattle.dcf77.specs.Says.{RunRules, LeapRule, SaysMinute}
@@ -48,7 +48,7 @@ pub says-one : (m : List ℕ) → RunRules m
 says-one m r = (minuteFields m, (fields-say m r, said-fields m r))
 
 -- what is read is a valid reading
-pub valid-read : (m : List ℕ) (a : MinuteTime) → readMinute m ≡ accepted a → isValid (a .time) ≡ true
+pub valid-read : (m : List ℕ) (a : MinuteTime) → readMinute m ≡ accepted a → isReading (a .time) ≡ true
 valid-read = read-valid
 
 -- read exactly what is written: as a, the marks of a and no other run, if a is a minute that some run announces

@@ -20,7 +20,7 @@ use Rattle.dcf77.specs.Minute.{announced, minuteFields, readMinute, minu
 use Rattle.dcf77.specs.Writable.{fieldsRepresentable, minuteRepresentable}
 use Rattle.dcf77.specs.declared.MinuteTime.{MinuteTime}
 use Rattle.dcf77.proofs.MarkLaws.{small-sure, binary-below}
-use Rattle.dcf77.proofs.AcceptLaws.{KeepsRules, leap-passes, read-keeps, keeps-read}
+use Rattle.dcf77.proofs.AcceptLaws.{KeepsRules, leap-passes, read-keeps, keeps-read, keeps-representable}
 use Rattle.dcf77.proofs.BackLaws.{text-read}
 use Rattle.dcf77.proofs.SameLaws.{sameMinute-refl, sameMinute-true}
 use Rattle.dcf77.proofs.FitLaws.{fits}
@@ -44,14 +44,9 @@ module _ (m : List ℕ) (k : KeepsRules m) where
   unfolding minuteRepresentable fieldsRepresentable minuteFields announced
   fields-pass =
       let marks : binary 14 1 m < 16384 = binary-below m (small-sure m (k .0 .sure)) 14 1 in
-      let t = k .1 in
       simp (
-        supported-exists (twoDigits 50 4 m) (twoDigits 45 1 m) (twoDigits 36 2 m) ∙ date-exactly _ _ _ .1 (t .date),
+        keeps-representable m k,
         zone-passes (long 17 m),
-        le-leb _ _ (t .weekday-least),
-        le-leb _ _ (t .weekday-most),
-        lt-ltb _ _ (suc-le-suc (t .time .hours)),
-        lt-ltb _ _ (suc-le-suc (t .time .minutes)),
         lt-ltb _ _ marks,
         leap-passes (length m) _ leap-told,
       )

@@ -107,32 +107,28 @@ fn is_zone_offset(offset: i16, summer: bool) -> bool
     offset == 60
 }
 
-// True where a run of marks can have the fields, but for the date and the offset.
+// Whether a minute can have the fields, but for what every format asks and for the offset.
 fn are_fields_representable(a: MinuteTime) -> bool
     ensures { λ r. ⌜ r ≡ fieldsRepresentable a ⌝ }
 {
     let t = a.time;
     let d = a.detail;
-    (1 <= t.weekday)
-        & (t.weekday <= 7)
-        & (t.hour < 24)
-        & (t.minute < 60)
-        & (t.second == 0)
+    (t.second == 0)
         & !t.unsynchronised
         & !t.unverified
         & (d.first_marks < 16384)
         & !(d.sixty & !(t.leap_second_announced & (t.minute == 0)))
 }
 
-// True where a run of marks is read as the minute.
+// Whether a run of marks is read as the minute.
 fn is_representable(a: MinuteTime) -> bool
     ensures { λ r. ⌜ r ≡ minuteRepresentable a ⌝ }
 {
     let t = a.time;
-    let fits = are_fields_representable(a);
-    let known = gregorian::is_supported_date(t.year, t.month, t.day);
-    let zone = is_zone_offset(t.utc_offset, t.summer_time);
-    fits & known & zone
+    if are_fields_representable(a) & is_zone_offset(t.utc_offset, t.summer_time) {
+        return calendar::representable::is_representable(t);
+    }
+    false
 }
 
 // Writes the run that is made of a minute, if it is read as that minute.

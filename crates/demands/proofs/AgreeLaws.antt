@@ -13,7 +13,7 @@ use Rattle.clock_time.specs.declared.ClockTime.{ClockTime}
 use Rattle.clock_time.proofs.ExactLaws.{eq-exactly, le-exactly, lt-exactly, not-exactly, either-exactly}
 use Rattle.clock_time.proofs.OrderLaws.{Agree, agree-append}
 use Rattle.gregorian.specs.Date.{supportedDate}
-use Rattle.calendar.specs.UnixTime.{isValid}
+use Rattle.calendar.specs.UnixTime.{isReading}
 use Rattle.gregorian.proofs.RulesLaws.{supported-exactly}
 use Rattle.calendar.proofs.RulesLaws.{valid-exactly}
 use Rattle.meinberg_gps.specs.Gps.{gps}
@@ -76,7 +76,7 @@ correction-agrees marks outcomes place mark =
     (refl, unfit-exactly _ _, λ p. (refl, le-exactly _ _, λ q. (refl, lt-exactly _ _, λ r. tt)))
 
 -- ---- the instant and dates
-pub instant-agrees : (t : ClockTime) → Agree (given 23 (not (isValid t)) ∷ []) (instantLines t)
+pub instant-agrees : (t : ClockTime) → Agree (given 23 (not (isReading t)) ∷ []) (instantLines t)
 instant-agrees t = (refl, not-exactly _ (valid-exactly t), λ p. tt)
 
 pub date-agrees : (year month day : ℕ) →

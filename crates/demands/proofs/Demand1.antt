@@ -14,7 +14,7 @@ use Rattle.clock_time.specs.Called.{answered, left, counted}
 use Rattle.clock_time.specs.Writing.{writing}
 use Rattle.clock_time.specs.declared.ClockTime.{ClockTime}
 use Rattle.gregorian.specs.Date.{supportedDate, dayNumber, weekdayOf}
-use Rattle.calendar.specs.UnixTime.{isValid, instantOf, unixTime}
+use Rattle.calendar.specs.UnixTime.{isReading, instantOf, unixTime}
 use Rattle.decimal.specs.Decimal.{value, firstNonDigit, digits, readDigits, writeDigits}
 use Rattle.layout.specs.Text.{clockChecks, textChecks, readText}
 use Rattle.meinberg_standard.specs.Standard.{standard, standardFields, readStandard, writeStandard}
@@ -149,7 +149,7 @@ correct-mark marks outcomes place mark =
 -- ---- the instant and dates
 pub unix-time : (t : ClockTime) → RefusesInOrder (instantLines t) (23 ∷ []) (unixTime t)
 unfolding unixTime
-unix-time t = ordered (instantOf t) (given 23 (not (isValid t)) ∷ []) _ (agrees.instant-agrees t) _ refl
+unix-time t = ordered (instantOf t) (given 23 (not (isReading t)) ∷ []) _ (agrees.instant-agrees t) _ refl
 
 pub day-number : (year month day : ℕ) → RefusesInOrder (dateLines year month day) (5 ∷ []) (dayNumber year month day)
 unfolding dayNumber
@@ -293,7 +293,7 @@ unfolding writeDigits
 write-digits n k d = write-bytes _ _ d
 
 pub write-line : (t : ClockTime) (d : List ℕ) →
-    RefusesAndKeeps (tests (given 23 (not (isValid t)) ∷ given 20 (ltb (length d) (length (lineOf t))) ∷ []))
+    RefusesAndKeeps (tests (given 23 (not (isReading t)) ∷ given 20 (ltb (length d) (length (lineOf t))) ∷ []))
     (23 ∷ 20 ∷ []) d (writeLine t d)
 unfolding writeLine
 write-line t d = write-bytes _ _ d

@@ -10,7 +10,7 @@ use lib.IntN.{ℤ}
 use borrow.Author.Tests.{lt-ltb}
 use Rattle.clock_time.specs.Errors.{Answer, accepted, refused, given, checked}
 use Rattle.clock_time.specs.Exit.{leaves}
-use Rattle.calendar.specs.UnixTime.{isValid, instantOf, unixTime}
+use Rattle.calendar.specs.UnixTime.{isReading, instantOf, unixTime}
 use Rattle.decimal.specs.Decimal.{value, firstNonDigit, Placed, readDigits}
 use Rattle.layout.specs.Layout.{has}
 use Rattle.layout.specs.Text.{textChecks, readText}
@@ -138,9 +138,9 @@ digits-checks s = go (ltb 19 (length s)) (ltb (firstNonDigit s) (length s))
 
 -- ---- the instant
 pub unix-time-checks : (z : List ℤ) → unixTimeOf z
-    ≡ checked (given 23 (not (fits timeRanges z)) ∷ given 23 (not (isValid (timeFrom z))) ∷ [])
+    ≡ checked (given 23 (not (fits timeRanges z)) ∷ given 23 (not (isReading (timeFrom z))) ∷ [])
     (instantOf (timeFrom z))
 unfolding unixTimeOf numbered unixTime
 unix-time-checks z =
-    then-checked (timeFrom z) (instantOf (timeFrom z)) (given 23 (not (isValid (timeFrom z))) ∷ []) unixTime refl
+    then-checked (timeFrom z) (instantOf (timeFrom z)) (given 23 (not (isReading (timeFrom z))) ∷ []) unixTime refl
     (given 23 (not (fits timeRanges z)) ∷ [])

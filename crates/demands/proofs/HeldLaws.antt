@@ -10,7 +10,7 @@ use borrow.Author.Tests.{leb-true, le-leb}
 use Rattle.clock_time.specs.Errors.{accepted}
 use Rattle.clock_time.specs.declared.ClockTime.{ClockTime}
 use Rattle.clock_time.specs.Lists.{slice}
-use Rattle.calendar.specs.UnixTime.{offsetInRange, isValid}
+use Rattle.calendar.specs.UnixTime.{offsetInRange, isReading}
 use Rattle.calendar.proofs.ValidLaws.{valid}
 use Rattle.meinberg_gps.specs.Gps.{gps, gpsFields, readGps}
 use Rattle.meinberg_gps.specs.declared.GpsTime.{GpsTime}
@@ -35,7 +35,7 @@ offset-small : (z : ℤ) → offsetInRange z ≡ true → within i16Range z ≡ 
 unfolding offsetInRange
 offset-small z h = let k = leb-true (natAbs z) 840 h in size-within 32767 z (omega arith)
 
-pub valid-holds : (t : ClockTime) → isValid t ≡ true → Holds t
+pub valid-holds : (t : ClockTime) → isReading t ≡ true → Holds t
 valid-holds t h =
     let v = valid t h in
     record {

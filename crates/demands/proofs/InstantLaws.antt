@@ -17,7 +17,7 @@ use Rattle.clock_time.proofs.OrderLaws.{Agree}
 use Rattle.clock_time.proofs.Tests.{both}
 use Rattle.gregorian.specs.Date.{daysSinceEpoch}
 use Rattle.calendar.specs.Rules.{ValidReading}
-use Rattle.calendar.specs.UnixTime.{isValid, instantOf, unixTime}
+use Rattle.calendar.specs.UnixTime.{isReading, instantOf, unixTime}
 use Rattle.calendar.proofs.RulesLaws.{valid-exactly}
 use Rattle.gregorian.proofs.Theorems.{day-after-exactly}
 use Rattle.clock_numbers.specs.Numbers.{timeNumbers}
@@ -44,9 +44,9 @@ instant-exactly t v z = (
 
 pub unix-time-exactly : (t : ClockTime) → ReadsExactly (InstantOf t) (unixTime t)
 unfolding unixTime
-unix-time-exactly t z = go (isValid t) refl
+unix-time-exactly t z = go (isReading t) refl
   where
-    go : (b : Bool) → isValid t ≡ b → (checked (given 23 (not b) ∷ []) (instantOf t) ≡ accepted z) ↔ InstantOf t z
+    go : (b : Bool) → isReading t ≡ b → (checked (given 23 (not b) ∷ []) (instantOf t) ≡ accepted z) ↔ InstantOf t z
     go true e =
         let v = valid-exactly t .0 e in (
           λ h. (v, instant-exactly t v z .0 (cc)),
@@ -112,10 +112,10 @@ time-long t = refl
 -- ---- the instant of numbers
 -- the numbers fit, and what they stand for is valid
 abbrev pub ofValid : List ℤ → Bool
-ofValid z = fits timeRanges z && isValid (timeFrom z)
+ofValid z = fits timeRanges z && isReading (timeFrom z)
 
 pub numbers-checks : (z : List ℤ) → unixTimeOf z ≡ checked (given 23 (not (ofValid z)) ∷ []) (instantOf (timeFrom z))
-numbers-checks z = unix-time-checks z ∙ go (fits timeRanges z) (isValid (timeFrom z))
+numbers-checks z = unix-time-checks z ∙ go (fits timeRanges z) (isReading (timeFrom z))
   where
     go : (a b : Bool) → checked (given 23 (not a) ∷ given 23 (not b) ∷ []) (instantOf (timeFrom z))
         ≡ checked (given 23 (not (a && b)) ∷ []) (instantOf (timeFrom z))

@@ -17,7 +17,7 @@ use Rattle.clock_time.specs.Writing.{Written}
 use Rattle.clock_time.specs.declared.ClockTime.{ClockTime}
 use Rattle.clock_time.proofs.ErrorLaws.{apart}
 use Rattle.calendar.specs.Rules.{ValidReading}
-use Rattle.calendar.specs.UnixTime.{isValid}
+use Rattle.calendar.specs.UnixTime.{isReading}
 use Rattle.calendar.proofs.RulesLaws.{valid-exactly}
 use Rattle.meinberg_standard.specs.Standard.{writeStandard}
 use Rattle.meinberg_standard.proofs.Theorems as standards
@@ -69,7 +69,7 @@ handed-settled say numbers same =
 -- a format whose strings have no position
 module _
     {Accepts : List ℕ → ClockTime → Type 0} {read : List ℕ → Answer ClockTime} (write : ClockTime → List ℕ → Written)
-    (f : Faithful Accepts read write) (valid : (s : List ℕ) (t : ClockTime) → read s ≡ accepted t → isValid t ≡ true)
+    (f : Faithful Accepts read write) (valid : (s : List ℕ) (t : ClockTime) → read s ≡ accepted t → isReading t ≡ true)
   where
     time-settled : (z : List ℤ) (d : List ℕ)
         → Settled (λ s. (r : Reading) × (Hands time (Accepts s) r × (z ≡ readingNumbers r))) d
@@ -200,7 +200,7 @@ module _ (n : ℕ) (s : List ℕ) (r : Reading) where
   unfolding gpsNumbers
   valid-numbers h = go (h .0) (h .1 .1)
     where
-      plainly : (t : ClockTime) → isValid t ≡ true → r ≡ time t
+      plainly : (t : ClockTime) → isReading t ≡ true → r ≡ time t
           → ValidReading (readingTime r) × (rest : List ℤ) × (readingNumbers r ≡ timeNumbers (readingTime r) ++ rest)
       plainly t v e = rw e (valid-exactly t .0 v, [], sym (append-nil (timeNumbers t)))
 

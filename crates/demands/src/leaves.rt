@@ -16,7 +16,7 @@ ghost use lib.Dec.{leb, ltb};
 ghost use lib.ListN.{length};
 ghost use Rattle.clock_time.specs.Errors.{given, checked};
 ghost use Rattle.clock_time.specs.Writing.{written};
-ghost use Rattle.calendar.specs.UnixTime.{isValid};
+ghost use Rattle.calendar.specs.UnixTime.{isReading};
 ghost use Rattle.decimal.specs.Decimal.{firstNonDigit, digits, digitsAnswer, readDigits, writeDigits};
 ghost use Rattle.layout.specs.Text.{clockChecks, readAnswer};
 ghost use Rattle.gps_position.specs.Position.{positionAnswer};
@@ -142,7 +142,7 @@ fn write_digits(number: u64, count: usize, out: &mut [u8]) -> WriteAnswer
 fn write_line(t: ClockTime, out: &mut [u8]) -> WriteAnswer
     ensures demand_1 { λ r. ⌜
         RefusesAndKeeps
-        (tests (given 23 (not (isValid t)) ∷ given 20 (ltb (length (now (out .entry))) (length (lineOf t))) ∷ []))
+        (tests (given 23 (not (isReading t)) ∷ given 20 (ltb (length (now (out .entry))) (length (lineOf t))) ∷ []))
         (23 ∷ 20 ∷ []) (now (out .entry)) (written r (now (out .exit)))
         ⌝ }
     ensures answer { λ r. ⌜ written r (now (out .exit)) ≡ writeLine t (now (out .entry)) ⌝ }

@@ -18,7 +18,7 @@ use Rattle.clock_time.proofs.Tests.{both, below-at}
 use Rattle.clock_time.specs.Lists.{ascii}
 use Rattle.gregorian.specs.Date.{dateExists, fullYear, supportedDate, weekdayNumber, weekdayOrZero}
 use Rattle.calendar.specs.TimeOfDay.{timeExists}
-use Rattle.calendar.specs.UnixTime.{isValid}
+use Rattle.calendar.specs.Representable.{isRepresentable}
 use Rattle.calendar.proofs.ValidLaws.{zone-in-range}
 use Rattle.gregorian.proofs.DateLaws.{supported-exists}
 use Rattle.decimal.specs.Decimal.{digits, value, valueFrom}
@@ -182,7 +182,7 @@ text-faultless t =
     rw (flags-digits t)
     (le-ltb 7 (flagsOf t) (flags-small (t .«summer_time») (t .«dst_change_announced») (t .unsynchronised)))
 
-text-says : (t : ClockTime) → isValid t ≡ true → elvRepresentable t ≡ true → elvFields (elvText t) ≡ t
+text-says : (t : ClockTime) → isRepresentable t ≡ true → elvRepresentable t ≡ true → elvFields (elvText t) ≡ t
 unfolding elvRepresentable elvFields withWeekday sentFields elvText ascii digits sameTime sameFields flagsOf
 text-says t h k =
     let zone = eqℤ (elvOffset (t .«summer_time»)) (t .«utc_offset») in

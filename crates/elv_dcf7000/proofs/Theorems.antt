@@ -12,7 +12,8 @@ use Rattle.clock_time.specs.declared.ClockTime.{ClockTime}
 use Rattle.clock_time.proofs.SameLaws.{sameTime-refl, sameTime-true}
 use Rattle.gregorian.specs.Date.{weekdayOf}
 use Rattle.gregorian.proofs.Theorems.{weekday-of-exactly}
-use Rattle.calendar.specs.UnixTime.{isValid}
+use Rattle.calendar.specs.UnixTime.{isReading}
+use Rattle.calendar.specs.Representable.{isRepresentable}
 use Rattle.calendar.specs.Rules.{ReadingRules}
 use Rattle.calendar.proofs.ValidLaws.{valid}
 use Rattle.layout.specs.Picture.{AsDrawn}
@@ -52,7 +53,7 @@ pub says-one : (s : List ℕ) → AsDrawn elvPicture s → twoDigitsAt s 18 ≤ 
 says-one = text.says-one in-words
 
 -- what is read is a valid reading
-pub valid-read : (s : List ℕ) (t : ClockTime) → readElv s ≡ accepted t → isValid t ≡ true
+pub valid-read : (s : List ℕ) (t : ClockTime) → readElv s ≡ accepted t → isReading t ≡ true
 unfolding readElv elv
 valid-read = clock-valid decides
 
@@ -65,6 +66,6 @@ weekday-read s t h =
 
 -- read exactly what is written: as t, the text of t and no other string, if t is a valid reading that it can represent
 pub read-is-written : (s : List ℕ) (t : ClockTime)
-    → (readElv s ≡ accepted t) ↔ (((isValid t && elvRepresentable t) ≡ true) × (elvText t ≡ s))
+    → (readElv s ≡ accepted t) ↔ (((isRepresentable t && elvRepresentable t) ≡ true) × (elvText t ≡ s))
 unfolding readElv elv
 read-is-written = clock-written decides elv-back

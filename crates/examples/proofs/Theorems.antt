@@ -6,7 +6,7 @@ use Rattle.clock_time.specs.Lists.{ascii}
 use Rattle.gregorian.specs.Date.{isLeapYear, monthLengths, daysInMonth, dateExists, fullYear, supportedDate, daysOfYears}
 use Rattle.gregorian.specs.Date.{daysBeforeMonth, daysSinceEpoch}
 use Rattle.calendar.specs.TimeOfDay.{modulo, utcMinute, timeExists}
-use Rattle.calendar.specs.UnixTime.{offsetInRange, isValid, instantOf, unixTime}
+use Rattle.calendar.specs.UnixTime.{offsetInRange, isReading, instantOf, unixTime}
 use Rattle.decimal.specs.Decimal.{isDigit, valueFrom}
 use Rattle.layout.specs.Layout.{allowed, errorAt, offence, first}
 use Rattle.layout.specs.Text.{clockChecks, textChecks, readText}
@@ -28,7 +28,7 @@ unfolding
     readGps gps readText textChecks clockChecks gpsLayout ascii allowed errorAt offence first isDigit valueFrom
     offsetFault offsetOf signHolds signed leapMismatch clockOf gpsFields positionFault positionDigits angleDigits
     rightAligned areDigits inRange angleOf positionOf isLeapYear monthLengths daysInMonth dateExists fullYear supportedDate
-    daysOfYears daysBeforeMonth daysSinceEpoch modulo utcMinute timeExists offsetInRange isValid instantOf unixTime
+    daysOfYears daysBeforeMonth daysSinceEpoch modulo utcMinute timeExists offsetInRange isReading instantOf unixTime
     fillOutcomes correctMark numbers differ differences ruleBy reached Option·toList gapBefore firstGap gapAfter
     runNumber readMinute minuteChecks minuteFields announced allSure binary twoDigits longs isOdd eqℤ
 examples-hold =

@@ -7,7 +7,7 @@ use lib.Dec.{eqb}
 use Rattle.clock_time.specs.Writing.{Written, writing}
 use Rattle.clock_time.specs.declared.ClockTime.{ClockTime}
 use Rattle.clock_time.specs.Lists.{ascii}
-use Rattle.calendar.specs.UnixTime.{isValid}
+use Rattle.calendar.specs.UnixTime.{isReading}
 use Rattle.decimal.specs.Decimal.{digits}
 use Rattle.meinberg_gps.specs.Gps.{offsetText}
 
@@ -43,4 +43,4 @@ lineOf t = lineWith t (offsetText (t .«utc_offset»)) (flagsText t)
 -- "Refused with 23 where the fields are no valid reading" (01, The reading); "For a writer: 23, 20" (01, Refusal
 -- numbers)
 unfoldable pub writeLine : ClockTime → List ℕ → Written
-writeLine t buffer = writing (isValid t) (lineOf t) buffer
+writeLine t buffer = writing (isReading t) (lineOf t) buffer

@@ -22,7 +22,7 @@ pub fn write_line(t: ClockTime, out: &mut [u8]) -> WriteAnswer
     ensures { λ r. ⌜ written r (now (out .exit)) ≡ writeLine t (now (out .entry)) ⌝ }
 {
     let text = line::line_of(t);
-    clock_time::write_bytes(calendar::unix_time::is_valid(t), &text, out)
+    clock_time::write_bytes(calendar::unix_time::is_reading(t), &text, out)
 }
 
 // Writes the line of the totals, its line feed included, to the front of `out`. Refuses with LentMemory (20) if there

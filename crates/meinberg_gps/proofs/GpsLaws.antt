@@ -6,8 +6,8 @@ use mathlib.Core.List.{List}
 use Rattle.clock_time.specs.Writing.{Written, writing}
 use Rattle.clock_time.proofs.SameLaws.{beq-refl}
 use Rattle.clock_time.specs.Lists.{ascii}
-use Rattle.calendar.specs.UnixTime.{isValid}
-use Rattle.calendar.proofs.ValidLaws.{valid}
+use Rattle.calendar.specs.Representable.{isRepresentable}
+use Rattle.calendar.proofs.RepresentableLaws.{represented}
 use Rattle.decimal.specs.Decimal.{digits}
 use Rattle.decimal.proofs.DecimalLaws.{digit-written}
 use Rattle.layout.specs.Layout.{allowed, fitsFrom, FitsLayout, number}
@@ -35,10 +35,10 @@ unfolding
 text-fits g = tested-fits gpsLayout (gpsText g) refl (simp (digit-written, letter-fits))
 
 -- ---- the parts are read as they were written
-module _ (g : GpsTime) (h : isValid (g .time) ≡ true) where
+module _ (g : GpsTime) (h : isRepresentable (g .time) ≡ true) where
   offset-part : OffsetRead (g .time .«utc_offset») (gpsText g)
   unfolding gpsText lineWith pzfText offsetText ascii digits
-  offset-part = offset-read (g .time .«utc_offset») (valid (g .time) h .offset) (gpsText g) refl
+  offset-part = offset-read (g .time .«utc_offset») (represented (g .time) h .offset) (gpsText g) refl
 
   clock-part : clockOf (gpsText g) ≡ g .time
   unfolding clockOf gpsText lineWith pzfText offsetText ascii digits
@@ -69,7 +69,7 @@ decides =
 
 -- the writer's code does as its definition says
 pub writes : (g : GpsTime) (buffer : List ℕ) {u v : Bool} {bytes : List ℕ} {o : Written}
-    → o ≡ writing (u && v) bytes buffer → u ≡ isValid (g .time) → v ≡ positionRepresentable (g .position)
+    → o ≡ writing (u && v) bytes buffer → u ≡ isRepresentable (g .time) → v ≡ positionRepresentable (g .position)
     → bytes ≡ gpsText g → o ≡ writeGps g buffer
 unfolding writeGps gps
 writes = text.writes gps gpsCarries decides sameGps-refl sameGps-true

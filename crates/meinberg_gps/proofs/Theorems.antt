@@ -8,7 +8,8 @@ use lib.ListN.{length}
 use Rattle.clock_time.specs.Errors.{accepted, refused}
 use Rattle.clock_time.specs.Order.{Gives}
 use Rattle.clock_time.specs.Faithful.{Faithful}
-use Rattle.calendar.specs.UnixTime.{isValid}
+use Rattle.calendar.specs.UnixTime.{isReading}
+use Rattle.calendar.specs.Representable.{isRepresentable}
 use Rattle.calendar.specs.Rules.{ReadingRules}
 use Rattle.layout.specs.Picture.{AsDrawn}
 use Rattle.layout.proofs.DecideLaws.{valid-answer, read-written}
@@ -49,13 +50,13 @@ pub long : length gpsPicture ≡ 66
 long = refl
 
 -- what is read is a valid reading
-pub valid-read : (s : List ℕ) (g : GpsTime) → readGps s ≡ accepted g → isValid (g .time) ≡ true
+pub valid-read : (s : List ℕ) (g : GpsTime) → readGps s ≡ accepted g → isReading (g .time) ≡ true
 unfolding readGps gps
 valid-read = valid-answer gps gpsCarries decides
 
 -- read exactly what is written: as g, the text of g and no other string, if g is a valid reading at a position that it
 -- can represent
 pub read-is-written : (s : List ℕ) (g : GpsTime) → (readGps s ≡ accepted g)
-    ↔ (((isValid (g .time) && positionRepresentable (g .position)) ≡ true) × (gpsText g ≡ s))
+    ↔ (((isRepresentable (g .time) && positionRepresentable (g .position)) ≡ true) × (gpsText g ≡ s))
 unfolding readGps gps
 read-is-written = read-written gps gpsCarries decides gps-back

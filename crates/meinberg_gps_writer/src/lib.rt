@@ -14,7 +14,7 @@ pub fn write_gps(g: GpsTime, out: &mut [u8]) -> WriteAnswer
     ensures { λ r. ⌜ written r (now (out .exit)) ≡ writeGps g (now (out .entry)) ⌝ }
 {
     let line = text::text_of(g);
-    let representable = calendar::unix_time::is_valid(g.time)
+    let representable = calendar::representable::is_representable(g.time)
         & gps_position::is_representable(g.position);
     clock_time::write_bytes(representable, &line, out)
 }

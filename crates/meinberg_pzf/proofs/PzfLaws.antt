@@ -8,7 +8,7 @@ use Rattle.clock_time.specs.Same.{eqℤ}
 use Rattle.clock_time.specs.declared.ClockTime.{ClockTime}
 use Rattle.clock_time.proofs.SameLaws.{eqℤ-refl, eqℤ-true}
 use Rattle.clock_time.specs.Lists.{ascii}
-use Rattle.calendar.specs.UnixTime.{isValid}
+use Rattle.calendar.specs.Representable.{isRepresentable}
 use Rattle.calendar.proofs.ValidLaws.{zone-in-range}
 use Rattle.decimal.specs.Decimal.{digits}
 use Rattle.decimal.proofs.DecimalLaws.{digit-written}
@@ -39,7 +39,7 @@ fields-representable : (s : List ℕ) → pzfRepresentable (pzfFields s) ≡ tru
 unfolding pzfRepresentable pzfFields
 fields-representable s = simp (offset-back, eqℤ-refl)
 
-text-says : (t : ClockTime) → isValid t ≡ true → pzfRepresentable t ≡ true → pzfFields (pzfText t) ≡ t
+text-says : (t : ClockTime) → isRepresentable t ≡ true → pzfRepresentable t ≡ true → pzfFields (pzfText t) ≡ t
 unfolding pzfRepresentable pzfFields pzfText ascii digits
 text-says t h k = simp (numbers-written, letter-read, eqℤ-true _ _ k)
 

@@ -10,7 +10,8 @@ use Rattle.clock_time.specs.Order.{Gives}
 use Rattle.clock_time.specs.Faithful.{Faithful}
 use Rattle.clock_time.specs.declared.ClockTime.{ClockTime}
 use Rattle.clock_time.proofs.SameLaws.{sameTime-refl, sameTime-true}
-use Rattle.calendar.specs.UnixTime.{isValid}
+use Rattle.calendar.specs.UnixTime.{isReading}
+use Rattle.calendar.specs.Representable.{isRepresentable}
 use Rattle.calendar.specs.Rules.{ReadingRules}
 use Rattle.layout.specs.Picture.{AsDrawn}
 use Rattle.layout.proofs.DecideLaws.{clock-valid, clock-written}
@@ -51,12 +52,12 @@ pub says-one : (s : List ℕ) → AsDrawn pzfPicture s
 says-one s d = text.says-one in-words s d tt
 
 -- what is read is a valid reading
-pub valid-read : (s : List ℕ) (t : ClockTime) → readPzf s ≡ accepted t → isValid t ≡ true
+pub valid-read : (s : List ℕ) (t : ClockTime) → readPzf s ≡ accepted t → isReading t ≡ true
 unfolding readPzf pzf
 valid-read = clock-valid decides
 
 -- read exactly what is written: as t, the text of t and no other string, if t is a valid reading that it can represent
 pub read-is-written : (s : List ℕ) (t : ClockTime)
-    → (readPzf s ≡ accepted t) ↔ (((isValid t && pzfRepresentable t) ≡ true) × (pzfText t ≡ s))
+    → (readPzf s ≡ accepted t) ↔ (((isRepresentable t && pzfRepresentable t) ≡ true) × (pzfText t ≡ s))
 unfolding readPzf pzf
 read-is-written = clock-written decides (λ s p. pzf-back s (p .clock .fits))

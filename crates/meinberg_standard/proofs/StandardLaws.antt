@@ -14,7 +14,7 @@ use Rattle.clock_time.specs.declared.ClockTime.{ClockTime}
 use Rattle.clock_time.proofs.SameLaws.{eqℤ-refl, eqℤ-true, eqb-refl, beq-refl, sameTime-true}
 use Rattle.clock_time.proofs.Tests.{both}
 use Rattle.clock_time.specs.Lists.{ascii}
-use Rattle.calendar.specs.UnixTime.{isValid}
+use Rattle.calendar.specs.Representable.{isRepresentable}
 use Rattle.calendar.proofs.ValidLaws.{zone-in-range}
 use Rattle.decimal.specs.Decimal.{digits}
 use Rattle.decimal.proofs.DecimalLaws.{digit-written}
@@ -125,7 +125,7 @@ leap-read true false h = refl
 leap-read false true h = refl
 leap-read false false h = refl
 
-text-says : (t : ClockTime) → isValid t ≡ true → standardRepresentable t ≡ true → standardFields (standardText t) ≡ t
+text-says : (t : ClockTime) → isRepresentable t ≡ true → standardRepresentable t ≡ true → standardFields (standardText t) ≡ t
 unfolding standardRepresentable standardFields standardText ascii digits sameTime sameFields
 text-says t h k =
     let zone = eqℤ (standardZone (zoneLetter (t .«utc_offset») (t .«summer_time»))) (t .«utc_offset») in

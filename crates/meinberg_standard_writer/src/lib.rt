@@ -94,6 +94,6 @@ pub fn write_standard(t: ClockTime, out: &mut [u8]) -> WriteAnswer
     ensures { λ r. ⌜ written r (now (out .exit)) ≡ writeStandard t (now (out .entry)) ⌝ }
 {
     let line = text_of(t);
-    let representable = calendar::unix_time::is_valid(t) & is_representable(t);
+    let representable = calendar::representable::is_representable(t) & is_representable(t);
     clock_time::write_bytes(representable, &line, out)
 }

@@ -4,15 +4,15 @@ use mathlib.Core.Bool.{and-true, and-false, and-assoc}
 use mir.Syntax.{w16}
 use mir.Val.{SFits}
 use mir.Facts.{toZ-ofZ}
-use Rattle.calendar.specs.UnixTime.{isValid}
-use Rattle.calendar.proofs.unix_time.is_valid.Statement.{statement}
-use Rattle.calendar.proofs.unix_time.is_valid.Tie as tie
+use Rattle.calendar.specs.UnixTime.{isReading}
+use Rattle.calendar.proofs.unix_time.is_reading.Statement.{statement}
+use Rattle.calendar.proofs.unix_time.is_reading.Tie as tie
 
 offset-fits : (c : tie.Start) → SFits w16 (c .args .t .«utc_offset»)
 offset-fits c = search sfits-of
 
 returns : tie.Need-returns
-unfolding isValid
+unfolding isReading
 returns c =
     let rest = c .before .before in
     let offset = rest .before in
@@ -23,7 +23,7 @@ returns c =
     simp (c .time-exists .ensures, toZ-ofZ f, and-assoc, known, rest-holds, and-true)
 
 returns-2 : tie.Need-returns-2
-unfolding isValid
+unfolding isReading
 returns-2 c =
     let offset = c .before in
     let date = offset .before .before .before .before in
@@ -32,10 +32,10 @@ returns-2 c =
     simp (and-assoc, rest-fails, and-false)
 
 returns-3 : tie.Need-returns-3
-unfolding isValid
+unfolding isReading
 returns-3 c = let known = sym (c .before .is-supported-date .ensures) ∙ c .if1 .left in simp known
 
-pub is-valid-spec : {M : Type 1} → statement M
-is-valid-spec =
+pub is-reading-spec : {M : Type 1} → statement M
+is-reading-spec =
     tie.close
     (tie.spec (λ c κs. search needs) (λ c κs. search needs) (λ c κs. search needs) returns returns-2 returns-3)

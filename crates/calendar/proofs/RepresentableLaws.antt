@@ -1,0 +1,29 @@
+-- What is known of a clock time that formats can represent, and when one with a year of two digits is such.
+use Prim.Native.Nat.{ℕ, _≤_}
+use mathlib.Core.Path.{_≡_}
+use mathlib.Core.Bool.{true}
+use borrow.Author.Tests.{le-leb}
+use Rattle.clock_time.specs.declared.ClockTime.{ClockTime}
+use Rattle.gregorian.specs.Date.{dateExists, fullYear}
+use Rattle.gregorian.proofs.DateLaws.{supported-exists}
+use Rattle.calendar.specs.TimeOfDay.{timeExists}
+use Rattle.calendar.specs.UnixTime.{offsetInRange, isReading}
+use Rattle.calendar.specs.Representable.{isRepresentable}
+use Rattle.calendar.proofs.ValidLaws.{Valid, valid}
+
+pub representable-reading : (t : ClockTime) → isRepresentable t ≡ true → isReading t ≡ true
+unfolding isRepresentable
+representable-reading t h = h
+
+pub represented : (t : ClockTime) → isRepresentable t ≡ true → Valid t
+represented t h = valid t (representable-reading t h)
+
+-- a clock time whose year comes from two digits, and which passes the checks of date, time and weekday, is representable
+-- if its offset is in range
+pub checked-representable : (t : ClockTime) (n : ℕ) → t .year ≡ fullYear n → dateExists (t .year) (t .month) (t .day) ≡ true
+    → timeExists (t .hour) (t .minute) (t .second) (t .«utc_offset») ≡ true → 1 ≤ t .weekday → t .weekday ≤ 7
+    → offsetInRange (t .«utc_offset») ≡ true → isRepresentable t ≡ true
+unfolding isRepresentable isReading
+checked-representable t n y date time weekday-least weekday-most offset =
+    let supported-date = rw (← y) at (supported-exists n (t .month) (t .day)) in
+    simp (supported-date, date, time, le-leb _ _ weekday-least, le-leb _ _ weekday-most, offset)

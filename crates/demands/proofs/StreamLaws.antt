@@ -47,7 +47,7 @@ module _ (state : List ℕ) (taken event : ℕ) (s : List ℕ) (limit : ℕ) whe
       new : FeedMemory
       new =
           let r = feedOf (framerIn state) (take limit s) in
-          feedMemory (stateBytes (r .framer) ++ drop 68 state) (r .taken) (eventNumber (r .answer))
+          feedMemory (stateBytes (r .framer) ++ drop 68 state) (r .taken) (eventNumber (r .event))
 
       go : (b : Bool) → ltb (length state) 68 ≡ b
           → exit (accepted a) m ≡ leaves (feedMemory state taken event) new (checked (given 20 b ∷ []) tt)
@@ -64,7 +64,7 @@ module _ (state : List ℕ) (taken event : ℕ) (s : List ℕ) (limit : ℕ) whe
       let room = feed-room (e .0) m (e .1) in
       let on = states.feed-goes-on state taken event s limit room in
       rw (ap (λ (x : Exit (Unit {0}) FeedMemory). x .memory) (e .1)) (record {
-        answer = feedOf (framerIn state) (take limit s) .answer;
+        ended = feedOf (framerIn state) (take limit s) .event;
         steps = rw (on .0, on .1) (framing.feed-by-steps (framerIn state) s limit);
         event = states.event-says state taken event s limit room;
         bytes = states.feed-bytes state taken event s limit room;

@@ -3,8 +3,8 @@ use Prim.Native.Nat.{ℕ, _+_, _≤_, _<_}
 use mathlib.Core.Path.{_≡_}
 use mathlib.Core.List.{List, _++_}
 use lib.ListN.{length, take, drop}
-use Rattle.framing.specs.Step.{FeedAnswer, complete}
-use Rattle.framing.specs.Feed.{feeding}
+use Rattle.framing.specs.declared.Event.{Event}
+use Rattle.framing.specs.declared.Event.the-variants.{Complete}
 use Rattle.framing.specs.Steps.{BySteps}
 use Rattle.feed_state.specs.Feed.{FeedMemory, framerIn, stateBytes}
 use Rattle.feed_state.specs.Event.{EventSays}
@@ -12,15 +12,16 @@ use Rattle.listing.specs.declared.Listing.{Listing}
 use Rattle.listing.specs.Listing.{ListedInto, after, textOf}
 
 -- "a complete string of n bytes" (01, The serial feed) has 1 to 66 of them
-abbrev pub FewBytes : FeedAnswer → Type 0
-FewBytes answer = (n : ℕ) → answer ≡ complete n → (1 ≤ n) × (n ≤ 66)
+abbrev pub FewBytes : Event → Type 0
+FewBytes event = (n : ℕ) → event ≡ Complete n → (1 ≤ n) × (n ≤ 66)
 
 -- a call of the feed from C with a state of 68 bytes: the state that it leaves, the number of bytes taken and the event
 -- are those of as many single steps; all 68 bytes are those of that state, and bytes after the 68th stay
 pub record CallFeeds (state s : List ℕ) (limit : ℕ) (left : FeedMemory) : Type 0 where
-  pub answer : FeedAnswer
-  pub steps : BySteps (framerIn state) s limit (feeding (framerIn (left .state)) answer (left .taken))
-  pub event : EventSays (left .event) answer
+  pub ended : Event
+  pub steps :
+      BySteps (framerIn state) s limit (record { framer = framerIn (left .state); event = ended; taken = left .taken })
+  pub event : EventSays (left .event) ended
   pub bytes : left .state ≡ stateBytes (framerIn (left .state)) ++ drop 68 state
 
 -- a call of the listing: the text of the bytes taken is at the front of the buffer, and nothing after it changes; it

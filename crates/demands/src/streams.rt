@@ -1,26 +1,25 @@
 // The serial feed and the listing of a stream, which refuse nothing.
-use framing::Fed;
+use framing::FeedResult;
 use framing::Framer;
-use framing::Step;
+use framing::StepResult;
 use listing::Listed;
 use listing::Listing;
 ghost use mathlib.Core.Path.{_≡_};
-ghost use Rattle.framing.specs.Step.{stepped, stepOf};
-ghost use Rattle.framing.specs.Feed.{fed};
+ghost use Rattle.framing.specs.Step.{stepOf};
 ghost use Rattle.framing.specs.Steps.{BySteps};
 ghost use Rattle.listing.specs.Listing.{listedInto, listOf};
 ghost use Rattle.demands.specs.Streams.{FewBytes, Lists};
 
-fn step(f: Framer, b: u8) -> Step
-    ensures step { λ r. ⌜ stepped r ≡ stepOf f b ⌝ }
-    ensures few { λ r. ⌜ FewBytes (stepped r .answer) ⌝ }
+fn step(f: Framer, b: u8) -> StepResult
+    ensures step { λ r. ⌜ r ≡ stepOf f b ⌝ }
+    ensures few { λ r. ⌜ FewBytes (r .event) ⌝ }
 {
     f.step(b)
 }
 
-fn feed(f: Framer, s: &[u8], limit: usize) -> Fed
-    ensures steps { λ r. ⌜ BySteps f (now (s .entry)) limit (fed r) ⌝ }
-    ensures few { λ r. ⌜ FewBytes (fed r .answer) ⌝ }
+fn feed(f: Framer, s: &[u8], limit: usize) -> FeedResult
+    ensures steps { λ r. ⌜ BySteps f (now (s .entry)) limit r ⌝ }
+    ensures few { λ r. ⌜ FewBytes (r .event) ⌝ }
 {
     f.feed(s, limit)
 }

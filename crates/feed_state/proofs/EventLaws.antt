@@ -2,38 +2,39 @@
 use Prim.Native.Nat.{ℕ, _≤_}
 use native.Mathlib.Omega.{arith}
 use mathlib.Core.Path.{_≡_, refl, ap}
-use Rattle.framing.specs.Step.{FeedAnswer, nothingYet, complete, dropped}
+use Rattle.framing.specs.declared.Event.{Event}
+use Rattle.framing.specs.declared.Event.the-variants.{Nothing, Complete, Dropped}
 use Rattle.framing.proofs.StepLaws.{nothing-complete, dropped-complete}
 use Rattle.feed_state.specs.Feed.{eventNumber}
 use Rattle.feed_state.specs.Event.{EventSays}
 
-nothing-dropped : {A : Type 0} → nothingYet ≡ dropped → A
+nothing-dropped : {A : Type 0} → Nothing ≡ Dropped → A
 nothing-dropped e = let z : _≡_ {A = ℕ} 0 1 = cc in absurd (omega arith)
 
-dropped-nothing : {A : Type 0} → dropped ≡ nothingYet → A
+dropped-nothing : {A : Type 0} → Dropped ≡ Nothing → A
 dropped-nothing e = let z : _≡_ {A = ℕ} 0 1 = cc in absurd (omega arith)
 
-complete-nothing : {A : Type 0} {m : ℕ} → complete m ≡ nothingYet → A
+complete-nothing : {A : Type 0} {m : ℕ} → Complete m ≡ Nothing → A
 complete-nothing e = let z : _≡_ {A = ℕ} 0 1 = cc in absurd (omega arith)
 
-complete-dropped : {A : Type 0} {m : ℕ} → complete m ≡ dropped → A
+complete-dropped : {A : Type 0} {m : ℕ} → Complete m ≡ Dropped → A
 complete-dropped e = let z : _≡_ {A = ℕ} 0 1 = cc in absurd (omega arith)
 
-pub number-says : (a : FeedAnswer) → ((n : ℕ) → a ≡ complete n → (1 ≤ n) × (n ≤ 66)) → EventSays (eventNumber a) a
-number-says nothingYet size =
+pub number-says : (a : Event) → ((n : ℕ) → a ≡ Complete n → (1 ≤ n) × (n ≤ 66)) → EventSays (eventNumber a) a
+number-says Nothing size =
     record {
       nothing = (λ e. refl, λ e. refl);
       string = λ n. (λ h. absurd (omega arith), nothing-complete);
       overlong = (λ e. absurd (omega arith), nothing-dropped);
     }
-number-says (complete m) size =
+number-says (Complete m) size =
     let h = size m refl in
     record {
       nothing = (λ e. absurd (omega arith), complete-nothing);
-      string = λ n. (λ w. ap complete (w .2), λ e. let q : m ≡ n = cc in (omega arith, omega arith, q));
+      string = λ n. (λ w. ap Complete (w .2), λ e. let q : m ≡ n = cc in (omega arith, omega arith, q));
       overlong = (λ e. absurd (omega arith), complete-dropped);
     }
-number-says dropped size =
+number-says Dropped size =
     record {
       nothing = (λ e. absurd (omega arith), dropped-nothing);
       string = λ n. (λ h. absurd (omega arith), dropped-complete);

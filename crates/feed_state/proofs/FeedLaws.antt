@@ -14,59 +14,62 @@ use Rattle.clock_time.proofs.WritingLaws.{writing-room}
 use Rattle.framing.specs.declared.Mode.{Mode}
 use Rattle.framing.specs.declared.Mode.the-variants.{Outside, Inside, Overlong}
 use Rattle.framing.specs.declared.Framer.{Framer}
-use Rattle.framing.specs.declared.Fed.{Fed}
-use Rattle.framing.specs.Step.{FeedAnswer, nothingYet, answerOf, placeOf, etxAt, plainAt, stepOf}
-use Rattle.framing.specs.Feed.{Feeding, feeding, fed, isNothing, later, feedOf}
+use Rattle.framing.specs.declared.Event.{Event}
+use Rattle.framing.specs.declared.Event.the-variants.{Nothing}
+use Rattle.framing.specs.declared.FeedResult.{FeedResult}
+use Rattle.framing.specs.Step.{placeOf, etxAt, plainAt, stepOf}
+use Rattle.framing.specs.Feed.{isNothing, later, feedOf}
 use Rattle.framing.proofs.StepLaws.{inside-room, step-cases}
 use Rattle.clock_time.specs.Called.{called, left}
 use Rattle.feed_state.specs.Feed.{modeNumber, framerIn, stateBytes, eventNumber, feedMemory, feedInto}
 
 -- ---- what every step keeps, a feed keeps
 module _
-    (P : Framer → FeedAnswer → Type 0)
-    (state : (f : Framer) (a : FeedAnswer) → P f a → P f nothingYet)
-    (step : (f : Framer) (b : ℕ) → P f nothingYet → P (stepOf f b .framer) (stepOf f b .answer))
+    (P : Framer → Event → Type 0)
+    (state : (f : Framer) (a : Event) → P f a → P f Nothing)
+    (step : (f : Framer) (b : ℕ) → P f Nothing → P (stepOf f b .framer) (stepOf f b .event))
   where
-    feed-keeps : (s : List ℕ) (f : Framer) → P f nothingYet → P (feedOf f s .framer) (feedOf f s .answer)
+    feed-keeps : (s : List ℕ) (f : Framer) → P f Nothing → P (feedOf f s .framer) (feedOf f s .event)
     unfolding feedOf later
     feed-keeps [] f h = h
     feed-keeps (b ∷ s) f h =
         let w = step f b h in
-        go (isNothing (stepOf f b .answer)) w (feed-keeps s (stepOf f b .framer) (state _ _ w))
+        go (isNothing (stepOf f b .event)) w (feed-keeps s (stepOf f b .framer) (state _ _ w))
       where
-        all : Bool → Feeding
+        all : Bool → FeedResult
         all t =
-            cond t (later 1 (feedOf (stepOf f b .framer) s)) (feeding (stepOf f b .framer) (stepOf f b .answer) 1)
+            cond t (later 1 (feedOf (stepOf f b .framer) s))
+            (record { framer = stepOf f b .framer; event = stepOf f b .event; taken = 1 })
 
-        go : (t : Bool) → P (stepOf f b .framer) (stepOf f b .answer)
-            → P (feedOf (stepOf f b .framer) s .framer) (feedOf (stepOf f b .framer) s .answer)
-            → P (all t .framer) (all t .answer)
+        go : (t : Bool) → P (stepOf f b .framer) (stepOf f b .event)
+            → P (feedOf (stepOf f b .framer) s .framer) (feedOf (stepOf f b .framer) s .event)
+            → P (all t .framer) (all t .event)
         go true one more = more
         go false one more = one
 
 -- ---- a count and an event fit bytes
-abbrev Small : Framer → FeedAnswer → Type 0
+abbrev Small : Framer → Event → Type 0
 Small f a = (f .count ≤ 255) × (eventNumber a ≤ 255)
 
-step-small : (f : Framer) (b : ℕ) → Small f nothingYet → Small (stepOf f b .framer) (stepOf f b .answer)
-step-small f b h = step-cases (λ r. Small (r .framer) (r .answer)) f b (λ e. (omega arith, omega arith)) etx plain
+step-small : (f : Framer) (b : ℕ) → Small f Nothing → Small (stepOf f b .framer) (stepOf f b .event)
+step-small f b h = step-cases (λ r. Small (r .framer) (r .event)) f b (λ e. (omega arith, omega arith)) etx plain
   where
-    etx : b ≡ 3 → (m : Mode) → placeOf (f .count) (f .mode) ≡ m → Small (etxAt m f .framer) (etxAt m f .answer)
+    etx : b ≡ 3 → (m : Mode) → placeOf (f .count) (f .mode) ≡ m → Small (etxAt m f .framer) (etxAt m f .event)
     etx e Outside at = h
     etx e Inside at = let room = inside-room (f .count) (f .mode) at in (omega arith, omega arith)
     etx e Overlong at = (h .0, omega arith)
 
     plain : eqb b 2 || eqb b 3 ≡ false → (m : Mode) → placeOf (f .count) (f .mode) ≡ m
-        → Small (plainAt m f b .framer) (plainAt m f b .answer)
+        → Small (plainAt m f b .framer) (plainAt m f b .event)
     plain e Outside at = h
     plain e Inside at = let room = inside-room (f .count) (f .mode) at in (omega arith, omega arith)
     plain e Overlong at = h
 
-feed-small : (s : List ℕ) (f : Framer) → f .count ≤ 255 → Small (feedOf f s .framer) (feedOf f s .answer)
+feed-small : (s : List ℕ) (f : Framer) → f .count ≤ 255 → Small (feedOf f s .framer) (feedOf f s .event)
 feed-small s f h = feed-keeps Small (λ f a w. (w .0, omega arith)) step-small s f (h, omega arith)
 
 -- ---- 66 bytes stay 66
-abbrev Whole : Framer → FeedAnswer → Type 0
+abbrev Whole : Framer → Event → Type 0
 Whole f a = length (f .bytes) ≡ 66
 
 step-whole : (f : Framer) (b : ℕ) → length (f .bytes) ≡ 66 → length (stepOf f b .framer .bytes) ≡ 66
@@ -86,9 +89,9 @@ step-whole f b h = step-cases (λ r. length (r .framer .bytes) ≡ 66) f b (λ e
 pub feed-whole : (s : List ℕ) (f : Framer) → length (f .bytes) ≡ 66 → length (feedOf f s .framer .bytes) ≡ 66
 feed-whole = feed-keeps Whole (λ f a w. w) step-whole
 
-pub fed-small : (r : Fed) (f : Framer) (s : List ℕ) → f .count ≤ 255 → fed r ≡ feedOf f s
-    → (r .framer .count ≤ 255) × (eventNumber (answerOf (r .event)) ≤ 255)
-fed-small r f s h e = subst (λ (x : Feeding). Small (x .framer) (x .answer)) (sym e) (feed-small s f h)
+pub fed-small : (r : FeedResult) (f : Framer) (s : List ℕ) → f .count ≤ 255 → r ≡ feedOf f s
+    → (r .framer .count ≤ 255) × (eventNumber (r .event) ≤ 255)
+fed-small r f s h e = subst (λ (x : FeedResult). Small (x .framer) (x .event)) (sym e) (feed-small s f h)
 
 pub state-small : (state : List ℕ) → getD state 66 0 < 256 → framerIn state .count ≤ 255
 unfolding framerIn
@@ -123,9 +126,9 @@ unfolding stateBytes
 store-after f d x long room e = rw (e, long) (two-after 66 (f .bytes) d (f .count) (modeNumber (f .mode)) long room)
 
 -- ---- the call
-pub feed-done : (state : List ℕ) (taken event : ℕ) (s : List ℕ) (limit : ℕ) (r : Fed) (x : List ℕ) (k : ℕ)
-    → 68 ≤ length state → fed r ≡ feedOf (framerIn state) (take limit s) → x ≡ stateBytes (r .framer) ++ drop 68 state
-    → k ≡ eventNumber (answerOf (r .event))
+pub feed-done : (state : List ℕ) (taken event : ℕ) (s : List ℕ) (limit : ℕ) (r : FeedResult) (x : List ℕ) (k : ℕ)
+    → 68 ≤ length state → r ≡ feedOf (framerIn state) (take limit s) → x ≡ stateBytes (r .framer) ++ drop 68 state
+    → k ≡ eventNumber (r .event)
     → called 0 (feedMemory x (r .taken) k) ≡ left (feedInto (feedMemory state taken event) s limit)
 unfolding feedInto
 feed-done state taken event s limit r x k room e p q = simp (le-ltb _ _ room, ← e, p, q)

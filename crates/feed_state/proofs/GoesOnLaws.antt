@@ -23,7 +23,7 @@ state-whole state room = length-take-le 66 state (omega arith)
 feed-room : (state : List ℕ) (taken event : ℕ) (s : List ℕ) (limit : ℕ) → 68 ≤ length state
     → let r = feedOf (framerIn state) (take limit s) in
     feedInto (feedMemory state taken event) s limit .memory
-    ≡ feedMemory (stateBytes (r .framer) ++ drop 68 state) (r .taken) (eventNumber (r .answer))
+    ≡ feedMemory (stateBytes (r .framer) ++ drop 68 state) (r .taken) (eventNumber (r .event))
 unfolding feedInto
 feed-room state taken event s limit room = simp (le-ltb _ _ room)
 
@@ -31,7 +31,7 @@ pub feed-goes-on : (state : List ℕ) (taken event : ℕ) (s : List ℕ) (limit 
     → let after = feedInto (feedMemory state taken event) s limit .memory in
     (framerIn (after .state) ≡ feedOf (framerIn state) (take limit s) .framer)
     × (after .taken ≡ feedOf (framerIn state) (take limit s) .taken)
-    × (after .event ≡ eventNumber (feedOf (framerIn state) (take limit s) .answer))
+    × (after .event ≡ eventNumber (feedOf (framerIn state) (take limit s) .event))
 feed-goes-on state taken event s limit room =
     let r = feedOf (framerIn state) (take limit s) in
     rw (feed-room state taken event s limit room) (

@@ -27,7 +27,7 @@ pub feed-goes-on : (state : List ℕ) (taken event : ℕ) (s : List ℕ) (limit 
     → let after = feedInto (feedMemory state taken event) s limit .memory in
     (framerIn (after .state) ≡ feedOf (framerIn state) (take limit s) .framer)
     × (after .taken ≡ feedOf (framerIn state) (take limit s) .taken)
-    × (after .event ≡ eventNumber (feedOf (framerIn state) (take limit s) .answer))
+    × (after .event ≡ eventNumber (feedOf (framerIn state) (take limit s) .event))
 feed-goes-on = goes.feed-goes-on
 
 -- and the bytes that it leaves are those of that state, with what was lent after the 68th
@@ -40,7 +40,7 @@ feed-bytes = goes.feed-bytes
 -- complete string of so many bytes, 255 an overlong one
 pub event-says : (state : List ℕ) (taken event : ℕ) (s : List ℕ) (limit : ℕ) → 68 ≤ length state
     → EventSays (feedInto (feedMemory state taken event) s limit .memory .event)
-    (feedOf (framerIn state) (take limit s) .answer)
+    (feedOf (framerIn state) (take limit s) .event)
 event-says state taken event s limit room =
     rw (feed-goes-on state taken event s limit room .2)
     (number-says _ (feed-complete (framerIn state) (take limit s)))

@@ -6,7 +6,9 @@ use lib.Dec.{eqb, ltb}
 use lib.ListN.{length, getD, take, drop}
 use Rattle.clock_time.specs.Errors.{given, checked}
 use Rattle.clock_time.specs.Exit.{Exit, leaves}
-use Rattle.framing.specs.Step.{FeedAnswer, nothingYet, complete, dropped, framerOf}
+use Rattle.framing.specs.declared.Event.{Event}
+use Rattle.framing.specs.declared.Event.the-variants.{Nothing, Complete, Dropped}
+use Rattle.framing.specs.Step.{framerOf}
 use Rattle.framing.specs.Feed.{feedOf}
 use Rattle.framing.specs.declared.Framer.{Framer}
 use Rattle.framing.specs.declared.Mode.{Mode}
@@ -33,10 +35,10 @@ stateBytes f = f .bytes ++ (f .count ∷ modeNumber (f .mode) ∷ [])
 
 -- ---- the event
 -- "It answers nothing yet, a complete string of n bytes, or an overlong string dropped." (01, The serial feed)
-abbrev pub eventNumber : FeedAnswer → ℕ
-eventNumber nothingYet = 0
-eventNumber (complete n) = n
-eventNumber dropped = 255
+abbrev pub eventNumber : Event → ℕ
+eventNumber Nothing = 0
+eventNumber (Complete n) = n
+eventNumber Dropped = 255
 
 -- ---- the call
 -- the memory lent: the state, and what stands behind two pointers
@@ -54,5 +56,5 @@ feedMemory state taken event = record { state = state; taken = taken; event = ev
 unfoldable pub feedInto : FeedMemory → List ℕ → ℕ → Exit (Unit {0}) FeedMemory
 feedInto old s limit =
     let r = feedOf (framerIn (old .state)) (take limit s) in
-    leaves old (feedMemory (stateBytes (r .framer) ++ drop 68 (old .state)) (r .taken) (eventNumber (r .answer)))
+    leaves old (feedMemory (stateBytes (r .framer) ++ drop 68 (old .state)) (r .taken) (eventNumber (r .event)))
     (checked (given 20 (ltb (length (old .state)) 68) ∷ []) tt)

@@ -6,7 +6,6 @@ ghost use mathlib.Core.Path.{_≡_};
 ghost use mathlib.Core.List.{_++_};
 ghost use Prim.Native.Nat.{_≤_};
 ghost use lib.ListN.{length, drop};
-ghost use Rattle.framing.specs.Step.{answerOf};
 ghost use Rattle.clock_time.specs.Called.{called, left};
 ghost use Rattle.feed_state.specs.Feed.{modeNumber, modeOf, framerIn, stateBytes, eventNumber, feedMemory};
 ghost use Rattle.feed_state.specs.Feed.{feedInto};
@@ -34,8 +33,8 @@ fn mode_of(n: u8) -> Mode
 }
 
 fn event_number(event: Event) -> u8
-    requires { ⌜ eventNumber (answerOf event) ≤ 255 ⌝ }
-    ensures { λ r. ⌜ r ≡ eventNumber (answerOf event) ⌝ }
+    requires { ⌜ eventNumber event ≤ 255 ⌝ }
+    ensures { λ r. ⌜ r ≡ eventNumber event ⌝ }
 {
     match event {
         Event::Nothing => 0,

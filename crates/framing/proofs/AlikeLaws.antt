@@ -10,8 +10,10 @@ use lib.Seq.{take-suc-set}
 use Rattle.framing.specs.declared.Mode.{Mode}
 use Rattle.framing.specs.declared.Mode.the-variants.{Outside, Inside, Overlong}
 use Rattle.framing.specs.declared.Framer.{Framer}
-use Rattle.framing.specs.Step.{Stepped, framerOf, stepTo, placeOf, etxAt, plainAt, stx, stepOf}
-use Rattle.framing.specs.Feed.{Feeding, feeding, isNothing, later, feedOf}
+use Rattle.framing.specs.declared.StepResult.{StepResult}
+use Rattle.framing.specs.declared.FeedResult.{FeedResult}
+use Rattle.framing.specs.Step.{framerOf, placeOf, etxAt, plainAt, stx, stepOf}
+use Rattle.framing.specs.Feed.{isNothing, later, feedOf}
 use Rattle.framing.specs.Steps.{Alike}
 use Rattle.framing.proofs.StepLaws.{inside-room}
 use Rattle.framing.proofs.FeedLaws.{feed-cases, feed-on, feed-stop}
@@ -27,14 +29,14 @@ record Twins (f : Framer) (y : List ℕ) : Type 0 where
   pub few : f .count ≤ 66
   pub kept : take (f .count) (f .bytes) ≡ take (f .count) y
 
-record TwinSteps (q r : Stepped) : Type 0 where
+record TwinSteps (q r : StepResult) : Type 0 where
   pub bytes : List ℕ
-  pub same : r ≡ stepTo (other (q .framer) bytes) (q .answer)
+  pub same : r ≡ record { framer = other (q .framer) bytes; event = q .event }
   pub twins : Twins (q .framer) bytes
 
-record TwinFeeds (q r : Feeding) : Type 0 where
+record TwinFeeds (q r : FeedResult) : Type 0 where
   pub bytes : List ℕ
-  pub same : r ≡ feeding (other (q .framer) bytes) (q .answer) (q .taken)
+  pub same : r ≡ record { framer = other (q .framer) bytes; event = q .event; taken = q .taken }
   pub twins : Twins (q .framer) bytes
 
 first-kept : (x : List ℕ) → length x ≡ 66 → take 1 (set x 0 2) ≡ 2 ∷ []
@@ -96,13 +98,13 @@ twins-feed (b ∷ s) f y w =
     record {
       bytes = ih .bytes;
       same =
-          feed-on (other f y) g (stepOf f b .answer) b s (st .same) (ap isNothing quiet) ∙ ap (later 1) (ih .same);
+          feed-on (other f y) g (stepOf f b .event) b s (st .same) (ap isNothing quiet) ∙ ap (later 1) (ih .same);
       twins = ih .twins;
     })
     (λ loud.
     record {
       bytes = st .bytes;
-      same = feed-stop (other f y) g (stepOf f b .answer) b s (st .same) loud;
+      same = feed-stop (other f y) g (stepOf f b .event) b s (st .same) loud;
       twins = st .twins;
     })
 
@@ -113,9 +115,9 @@ unfolding feedOf later stepOf
 alike-stx f g s p q =
     let t = twins-feed s (stx f .framer) (set (g .bytes) 0 2) (twins-stx f (g .bytes) p q) in
     record {
-      answer = sym (ap (λ (r : Feeding). r .answer) (t .same));
-      taken = sym (ap (λ (r : Feeding). 1 + r .taken) (t .same));
-      count = sym (ap (λ (r : Feeding). r .framer .count) (t .same));
-      mode = sym (ap (λ (r : Feeding). r .framer .mode) (t .same));
-      kept = t .twins .kept ∙ sym (ap (λ (r : Feeding). take (r .framer .count) (r .framer .bytes)) (t .same));
+      event = sym (ap (λ (r : FeedResult). r .event) (t .same));
+      taken = sym (ap (λ (r : FeedResult). 1 + r .taken) (t .same));
+      count = sym (ap (λ (r : FeedResult). r .framer .count) (t .same));
+      mode = sym (ap (λ (r : FeedResult). r .framer .mode) (t .same));
+      kept = t .twins .kept ∙ sym (ap (λ (r : FeedResult). take (r .framer .count) (r .framer .bytes)) (t .same));
     }

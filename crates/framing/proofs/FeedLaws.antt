@@ -9,54 +9,60 @@ use mathlib.Core.List.{List, _∷_}
 use lib.ListN.{length, getD, take, drop, length-drop, drop-of-length-le}
 use lib.Seq.{drop-cons, drop-drop, take-all}
 use Rattle.framing.specs.declared.Framer.{Framer}
-use Rattle.framing.specs.Step.{FeedAnswer, nothingYet, complete, dropped, stepTo, stepOf}
-use Rattle.framing.specs.Feed.{Feeding, feeding, isNothing, later, feedOf}
+use Rattle.framing.specs.declared.Event.{Event}
+use Rattle.framing.specs.declared.Event.the-variants.{Nothing, Complete, Dropped}
+use Rattle.framing.specs.declared.FeedResult.{FeedResult}
+use Rattle.framing.specs.Step.{stepOf}
+use Rattle.framing.specs.Feed.{isNothing, later, feedOf}
 use Rattle.framing.specs.Run.{Taken}
 
-pub later-zero : (r : Feeding) → later 0 r ≡ r
+pub later-zero : (r : FeedResult) → later 0 r ≡ r
 unfolding later
 later-zero r = simp zero-add
 
-pub later-later : (m n : ℕ) (r : Feeding) → later m (later n r) ≡ later (m + n) r
+pub later-later : (m n : ℕ) (r : FeedResult) → later m (later n r) ≡ later (m + n) r
 unfolding later
 later-later m n r = simp add-assoc
 
-pub later-one : (n : ℕ) (r : Feeding) → later 1 (later n r) ≡ later (suc n) r
+pub later-one : (n : ℕ) (r : FeedResult) → later 1 (later n r) ≡ later (suc n) r
 later-one n r = simp (later-later, one-add)
 
-pub feed-end : (f : Framer) (s : List ℕ) (i : ℕ) → length s ≤ i → feedOf f (drop i s) ≡ feeding f nothingYet 0
+pub feed-end : (f : Framer) (s : List ℕ) (i : ℕ) → length s ≤ i
+    → feedOf f (drop i s) ≡ record { framer = f; event = Nothing; taken = 0 }
 unfolding feedOf
 feed-end f s i h = rw (drop-of-length-le s h)
 
-nothing-yet : (a : FeedAnswer) → isNothing a ≡ true → a ≡ nothingYet
-nothing-yet nothingYet h = refl
-nothing-yet (complete n) h = absurd (true≢false (sym h))
-nothing-yet dropped h = absurd (true≢false (sym h))
+nothing-yet : (a : Event) → isNothing a ≡ true → a ≡ Nothing
+nothing-yet Nothing h = refl
+nothing-yet (Complete n) h = absurd (true≢false (sym h))
+nothing-yet Dropped h = absurd (true≢false (sym h))
 
-pub loud-some : (a : FeedAnswer) → isNothing a ≡ false → a ≡ nothingYet → ⊥
+pub loud-some : (a : Event) → isNothing a ≡ false → a ≡ Nothing → ⊥
 loud-some a loud e = true≢false (sym (ap isNothing e) ∙ loud)
 
 -- what holds of a feed's outcome, by whether the first byte ends a string
-pub feed-cases : (P : Feeding → Type 0) (f : Framer) (b : ℕ) (s : List ℕ)
-    → (stepOf f b .answer ≡ nothingYet → P (later 1 (feedOf (stepOf f b .framer) s)))
-    → (isNothing (stepOf f b .answer) ≡ false → P (feeding (stepOf f b .framer) (stepOf f b .answer) 1))
+pub feed-cases : (P : FeedResult → Type 0) (f : Framer) (b : ℕ) (s : List ℕ)
+    → (stepOf f b .event ≡ Nothing → P (later 1 (feedOf (stepOf f b .framer) s)))
+    → (isNothing (stepOf f b .event) ≡ false
+    → P (record { framer = stepOf f b .framer; event = stepOf f b .event; taken = 1 }))
     → P (feedOf f (b ∷ s))
 unfolding feedOf
-feed-cases P f b s on stop = go (isNothing (stepOf f b .answer)) refl
+feed-cases P f b s on stop = go (isNothing (stepOf f b .event)) refl
   where
-    go : (t : Bool) → isNothing (stepOf f b .answer) ≡ t
-        → P (cond t (later 1 (feedOf (stepOf f b .framer) s)) (feeding (stepOf f b .framer) (stepOf f b .answer) 1))
-    go true e = on (nothing-yet (stepOf f b .answer) e)
+    go : (t : Bool) → isNothing (stepOf f b .event) ≡ t
+        → P (cond t (later 1 (feedOf (stepOf f b .framer) s))
+        (record { framer = stepOf f b .framer; event = stepOf f b .event; taken = 1 }))
+    go true e = on (nothing-yet (stepOf f b .event) e)
     go false e = stop e
 
-module _ (f g : Framer) (a : FeedAnswer) (b : ℕ) (s : List ℕ) (step : stepOf f b ≡ stepTo g a) where
+module _ (f g : Framer) (a : Event) (b : ℕ) (s : List ℕ) (step : stepOf f b ≡ record { framer = g; event = a }) where
   -- a byte that ends nothing, and the rest
   pub feed-on : isNothing a ≡ true → feedOf f (b ∷ s) ≡ later 1 (feedOf g s)
   unfolding feedOf
   feed-on quiet = simp (step, quiet)
 
   -- a byte that ends a string
-  pub feed-stop : isNothing a ≡ false → feedOf f (b ∷ s) ≡ feeding g a 1
+  pub feed-stop : isNothing a ≡ false → feedOf f (b ∷ s) ≡ record { framer = g; event = a; taken = 1 }
   unfolding feedOf
   feed-stop loud = simp (step, loud)
 
@@ -78,23 +84,29 @@ module _ (f : Framer) (s : List ℕ) where
           goes = t .goes ∙ ap (later i) (u .goes) ∙ simp (later-later, drop-drop);
         }
 
-    pub taken-end : length s ≤ i → feedOf f s ≡ feeding g nothingYet i
+    pub taken-end : length s ≤ i → feedOf f s ≡ record { framer = g; event = Nothing; taken = i }
     unfolding later
     taken-end q = t .goes ∙ ap (later i) (feed-end g s i q) ∙ simp add-zero
 
-    module _ (h : Framer) (a : FeedAnswer) (q : i < length s) (step : stepOf g (getD s i 0) ≡ stepTo h a) where
-      at-place : feedOf g (drop i s) ≡ feedOf g (getD s i 0 ∷ drop (i + 1) s)
-      at-place = rw (add-one, drop-cons s i 0)
+    module _
+        (h : Framer)
+        (a : Event)
+        (q : i < length s)
+        (step : stepOf g (getD s i 0) ≡ record { framer = h; event = a })
+      where
+        at-place : feedOf g (drop i s) ≡ feedOf g (getD s i 0 ∷ drop (i + 1) s)
+        at-place = rw (add-one, drop-cons s i 0)
 
-      pub taken-step : isNothing a ≡ true → Taken f s (i + 1) h
-      taken-step quiet =
-          record {
-            within = omega arith;
-            goes =
-                t .goes ∙ ap (later i) (at-place ∙ feed-on g h a (getD s i 0) (drop (i + 1) s) step quiet)
-                ∙ simp later-later;
-          }
+        pub taken-step : isNothing a ≡ true → Taken f s (i + 1) h
+        taken-step quiet =
+            record {
+              within = omega arith;
+              goes =
+                  t .goes ∙ ap (later i) (at-place ∙ feed-on g h a (getD s i 0) (drop (i + 1) s) step quiet)
+                  ∙ simp later-later;
+            }
 
-      pub taken-stop : isNothing a ≡ false → feedOf f s ≡ feeding h a (i + 1)
-      unfolding later
-      taken-stop loud = t .goes ∙ ap (later i) (at-place ∙ feed-stop g h a (getD s i 0) (drop (i + 1) s) step loud)
+        pub taken-stop : isNothing a ≡ false → feedOf f s ≡ record { framer = h; event = a; taken = i + 1 }
+        unfolding later
+        taken-stop loud =
+            t .goes ∙ ap (later i) (at-place ∙ feed-stop g h a (getD s i 0) (drop (i + 1) s) step loud)

@@ -11,8 +11,10 @@ use lib.ListN.{length, take, set, length-set, length-append}
 use lib.Seq.{append-snoc, take-suc-set}
 use Rattle.framing.specs.declared.Mode.the-variants.{Outside, Inside, Overlong}
 use Rattle.framing.specs.declared.Framer.{Framer}
-use Rattle.framing.specs.Step.{nothingYet, complete, dropped, framerOf, stepTo, stx, stepOf}
-use Rattle.framing.specs.Feed.{Feeding, later, feedOf}
+use Rattle.framing.specs.declared.Event.the-variants.{Nothing, Complete, Dropped}
+use Rattle.framing.specs.declared.FeedResult.{FeedResult}
+use Rattle.framing.specs.Step.{framerOf, stx, stepOf}
+use Rattle.framing.specs.Feed.{later, feedOf}
 use Rattle.framing.specs.Framed.{allPlain, Finds, Drops}
 use Rattle.framing.proofs.StepLaws.{place-inside, place-full, place-overlong, still-overlong}
 use Rattle.framing.proofs.StepLaws.{step-stx, step-etx, step-ends, step-keeps, step-full}
@@ -28,8 +30,8 @@ unfolding allPlain
 plain-cons b s h = first-plain (eqb b 2 || eqb b 3) (allPlain s) h
 
 -- inside, with x kept: the rest of the string
-record FindsRest (string : List ℕ) (n t : ℕ) (r : Feeding) : Type 0 where
-  pub answer : r .answer ≡ complete n
+record FindsRest (string : List ℕ) (n t : ℕ) (r : FeedResult) : Type 0 where
+  pub event : r .event ≡ Complete n
   pub taken : r .taken ≡ t
   pub kept : take n (r .framer .bytes) ≡ string
 
@@ -38,9 +40,9 @@ module _ (rest : List ℕ) where
       → FindsRest (x ++ 3 ∷ []) n 1 (feedOf (framerOf bytes count Inside) (3 ∷ rest))
   finds-end x bytes count n size e few kept =
       rw (feed-stop (framerOf bytes count Inside) (framerOf (set bytes count 3) (count + 1) Outside)
-      (complete (count + 1)) 3 rest (step-ends _ 3 (place-inside count (omega arith)) refl) refl)
+      (Complete (count + 1)) 3 rest (step-ends _ 3 (place-inside count (omega arith)) refl) refl)
       (record {
-        answer = ap complete (sym e);
+        event = ap Complete (sym e);
         taken = refl;
         kept = rw e (kept-more bytes count 3 x (omega arith) kept);
       })
@@ -55,24 +57,25 @@ module _ (rest : List ℕ) where
       let w =
       finds-rest body (x ++ b ∷ []) (set bytes count b) (count + 1) n (simp length-set size) (omega arith) few
       (kept-more bytes count b x (omega arith) kept) (p .1) in
-      rw (feed-on (framerOf bytes count Inside) (framerOf (set bytes count b) (count + 1) Inside) nothingYet b
+      rw (feed-on (framerOf bytes count Inside) (framerOf (set bytes count b) (count + 1) Inside) Nothing b
       (body ++ 3 ∷ rest) (step-keeps bytes count b (omega arith) (p .0)) refl)
       (record {
-        answer = w .answer;
+        event = w .event;
         taken = omega (arith, w .taken);
         kept = w .kept ∙ append-snoc x b (body ++ 3 ∷ []);
       })
 
-  drops-end : (f : Framer) (bytes : List ℕ) (count : ℕ) → stepOf f 3 ≡ stepTo (framerOf bytes count Outside) dropped
+  drops-end : (f : Framer) (bytes : List ℕ) (count : ℕ)
+      → stepOf f 3 ≡ record { framer = framerOf bytes count Outside; event = Dropped }
       → Drops 1 (feedOf f (3 ∷ rest))
   drops-end f bytes count step =
-      rw (feed-stop f (framerOf bytes count Outside) dropped 3 rest step refl) (record { answer = refl; taken = refl })
+      rw (feed-stop f (framerOf bytes count Outside) Dropped 3 rest step refl) (record { event = refl; taken = refl })
 
-  drops-more : (f g : Framer) (b n : ℕ) (s : List ℕ) → stepOf f b ≡ stepTo g nothingYet → Drops n (feedOf g s)
-      → Drops (n + 1) (feedOf f (b ∷ s))
+  drops-more : (f g : Framer) (b n : ℕ) (s : List ℕ) → stepOf f b ≡ record { framer = g; event = Nothing }
+      → Drops n (feedOf g s) → Drops (n + 1) (feedOf f (b ∷ s))
   unfolding later
   drops-more f g b n s step w =
-      rw (feed-on f g nothingYet b s step refl) (record { answer = w .answer; taken = omega (arith, w .taken) })
+      rw (feed-on f g Nothing b s step refl) (record { event = w .event; taken = omega (arith, w .taken) })
 
   drops-overlong : (body bytes : List ℕ) (count : ℕ) → count ≤ 66 → allPlain body ≡ true
       → Drops (length body + 1) (feedOf (framerOf bytes count Overlong) (body ++ 3 ∷ rest))
@@ -113,7 +116,7 @@ module _ (rest : List ℕ) where
 module _ (f : Framer) (body rest : List ℕ) (size : length (f .bytes) ≡ 66) (plain : allPlain body ≡ true) where
   -- STX first, from any state
   feed-stx : feedOf f (2 ∷ (body ++ 3 ∷ rest)) ≡ later 1 (feedOf (stx f .framer) (body ++ 3 ∷ rest))
-  feed-stx = feed-on f (stx f .framer) nothingYet 2 (body ++ 3 ∷ rest) (step-stx f 2 refl) refl
+  feed-stx = feed-on f (stx f .framer) Nothing 2 (body ++ 3 ∷ rest) (step-stx f 2 refl) refl
 
   pub string-found : length body + 2 ≤ 66 → Finds (2 ∷ body ++ 3 ∷ []) (feedOf f (2 ∷ body ++ 3 ∷ rest))
   unfolding later
@@ -122,10 +125,10 @@ module _ (f : Framer) (body rest : List ℕ) (size : length (f .bytes) ≡ 66) (
       let w =
       finds-rest rest body (2 ∷ []) (set (f .bytes) 0 2) 1 (length (2 ∷ body ++ 3 ∷ [])) (simp length-set size) n
       (omega arith) (take-suc-set (f .bytes) 0 2 (omega arith)) plain in
-      rw feed-stx (record { answer = w .answer; taken = omega (arith, w .taken); kept = w .kept })
+      rw feed-stx (record { event = w .event; taken = omega (arith, w .taken); kept = w .kept })
 
   pub overlong-dropped : 66 < length body + 2 → Drops (length body + 2) (feedOf f (2 ∷ body ++ 3 ∷ rest))
   unfolding later
   overlong-dropped many =
       let w = drops-rest rest body (set (f .bytes) 0 2) 1 (omega arith) (omega arith) plain in
-      rw feed-stx (record { answer = w .answer; taken = omega (arith, w .taken) })
+      rw feed-stx (record { event = w .event; taken = omega (arith, w .taken) })

@@ -12,9 +12,10 @@ use lib.Seq.{append-snoc, take-suc, take-suc-set, length-take-le}
 use Rattle.framing.specs.declared.Mode.{Mode}
 use Rattle.framing.specs.declared.Mode.the-variants.{Outside, Inside, Overlong}
 use Rattle.framing.specs.declared.Framer.{Framer}
-use Rattle.framing.specs.Step.{complete, start, placeOf, etxAt, plainAt, stx, stepOf}
+use Rattle.framing.specs.declared.Event.the-variants.{Complete}
+use Rattle.framing.specs.Step.{start, placeOf, etxAt, plainAt, stx, stepOf}
 use Rattle.framing.specs.Feed.{feedOf}
-use Rattle.framing.specs.Steps.{steps, answerAt}
+use Rattle.framing.specs.Steps.{steps, eventAt}
 use Rattle.framing.specs.Framed.{allPlain, Reached, Framed}
 use Rattle.framing.proofs.StepLaws.{nothing-complete, dropped-complete, inside-place, inside-not-outside}
 use Rattle.framing.proofs.StepLaws.{step-cases}
@@ -91,7 +92,7 @@ module _ (p : List ℕ) (f : Framer) (b : ℕ) (w : Reached p f) where
   reached-step =
       step-cases (λ r. Reached (p ++ b ∷ []) (r .framer)) f b reached-stx reached-etx reached-plain
 
-  framed-etx : (n : ℕ) → b ≡ 3 → (m : Mode) → placeOf (f .count) (f .mode) ≡ m → etxAt m f .answer ≡ complete n
+  framed-etx : (n : ℕ) → b ≡ 3 → (m : Mode) → placeOf (f .count) (f .mode) ≡ m → etxAt m f .event ≡ Complete n
       → Framed (p ++ b ∷ []) (etxAt m f .framer) n
   framed-etx n e Outside at h = nothing-complete h
   framed-etx n e Inside at h =
@@ -109,13 +110,13 @@ module _ (p : List ℕ) (f : Framer) (b : ℕ) (w : Reached p f) where
       }
   framed-etx n e Overlong at h = dropped-complete h
 
-  pub complete-framed : (n : ℕ) → stepOf f b .answer ≡ complete n → Framed (p ++ b ∷ []) (stepOf f b .framer) n
+  pub complete-framed : (n : ℕ) → stepOf f b .event ≡ Complete n → Framed (p ++ b ∷ []) (stepOf f b .framer) n
   complete-framed n =
-      step-cases (λ r. r .answer ≡ complete n → Framed (p ++ b ∷ []) (r .framer) n) f b (λ e. nothing-complete)
+      step-cases (λ r. r .event ≡ Complete n → Framed (p ++ b ∷ []) (r .framer) n) f b (λ e. nothing-complete)
       (framed-etx n) plain
     where
       plain : eqb b 2 || eqb b 3 ≡ false → (m : Mode) → placeOf (f .count) (f .mode) ≡ m
-          → plainAt m f b .answer ≡ complete n → Framed (p ++ b ∷ []) (plainAt m f b .framer) n
+          → plainAt m f b .event ≡ Complete n → Framed (p ++ b ∷ []) (plainAt m f b .framer) n
       plain h Outside at = nothing-complete
       plain h Inside at = nothing-complete
       plain h Overlong at = nothing-complete
@@ -140,9 +141,9 @@ module _ (p s : List ℕ) (limit : ℕ) (f : Framer) (w : Reached p f) where
   reached-feed =
       rw (by-steps f s limit .state) (reached-steps p (take (feedOf f (take limit s) .taken) s) f w)
 
-  pub framed-feed : (n : ℕ) → feedOf f (take limit s) .answer ≡ complete n
+  pub framed-feed : (n : ℕ) → feedOf f (take limit s) .event ≡ Complete n
       → Framed (p ++ take (feedOf f (take limit s) .taken) s) (feedOf f (take limit s) .framer) n
-  unfolding answerAt
+  unfolding eventAt
   framed-feed n h =
       rw (by-steps f s limit .state) (go (feedOf f (take limit s) .taken) refl)
     where

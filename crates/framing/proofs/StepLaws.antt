@@ -10,7 +10,9 @@ use borrow.Author.Tests.{ltb-true, eqb-true, lt-ltb, le-ltb}
 use Rattle.framing.specs.declared.Mode.{Mode}
 use Rattle.framing.specs.declared.Mode.the-variants.{Outside, Inside, Overlong}
 use Rattle.framing.specs.declared.Framer.{Framer}
-use Rattle.framing.specs.Step.{Stepped, nothingYet, complete, dropped, framerOf, stepTo, whenInside, placeOf}
+use Rattle.framing.specs.declared.Event.the-variants.{Nothing, Complete, Dropped}
+use Rattle.framing.specs.declared.StepResult.{StepResult}
+use Rattle.framing.specs.Step.{framerOf, whenInside, placeOf}
 use Rattle.framing.specs.Step.{inMode, keeping, etxAt, plainAt, stx, stepOf}
 use Rattle.framing.specs.Run.{Still}
 
@@ -68,7 +70,7 @@ inside-not-outside count few h = go (ltb count 66) (simp (le-ltb 66 count few) a
     go false h = let z : _≡_ {A = ℕ} 0 1 = cc in omega arith
 
 -- what holds of a step's outcome, by the byte and the place
-pub step-cases : (P : Stepped → Type 0) (f : Framer) (b : ℕ) → (b ≡ 2 → P (stx f))
+pub step-cases : (P : StepResult → Type 0) (f : Framer) (b : ℕ) → (b ≡ 2 → P (stx f))
     → (b ≡ 3 → (m : Mode) → placeOf (f .count) (f .mode) ≡ m → P (etxAt m f))
     → (eqb b 2 || eqb b 3 ≡ false → (m : Mode) → placeOf (f .count) (f .mode) ≡ m → P (plainAt m f b))
     → P (stepOf f b)
@@ -82,18 +84,18 @@ step-cases P f b first last other = go (eqb b 2) (eqb b 3) refl refl
     go false true p q = last (eqb-true b 3 q) (placeOf (f .count) (f .mode)) refl
     go false false p q = other (simp (p, q)) (placeOf (f .count) (f .mode)) refl
 
-pub nothing-complete : {A : Type 0} {n : ℕ} → nothingYet ≡ complete n → A
+pub nothing-complete : {A : Type 0} {n : ℕ} → Nothing ≡ Complete n → A
 nothing-complete e = let z : _≡_ {A = ℕ} 0 1 = cc in absurd (omega arith)
 
-pub dropped-complete : {A : Type 0} {n : ℕ} → dropped ≡ complete n → A
+pub dropped-complete : {A : Type 0} {n : ℕ} → Dropped ≡ Complete n → A
 dropped-complete e = let z : _≡_ {A = ℕ} 0 1 = cc in absurd (omega arith)
 
 -- a complete string has 1 to 66 bytes, from any state
-pub step-complete : (f : Framer) (b n : ℕ) → stepOf f b .answer ≡ complete n → (1 ≤ n) × (n ≤ 66)
+pub step-complete : (f : Framer) (b n : ℕ) → stepOf f b .event ≡ Complete n → (1 ≤ n) × (n ≤ 66)
 step-complete f b n =
-    step-cases (λ r. r .answer ≡ complete n → (1 ≤ n) × (n ≤ 66)) f b (λ e. nothing-complete) etx plain
+    step-cases (λ r. r .event ≡ Complete n → (1 ≤ n) × (n ≤ 66)) f b (λ e. nothing-complete) etx plain
   where
-    etx : b ≡ 3 → (m : Mode) → placeOf (f .count) (f .mode) ≡ m → etxAt m f .answer ≡ complete n
+    etx : b ≡ 3 → (m : Mode) → placeOf (f .count) (f .mode) ≡ m → etxAt m f .event ≡ Complete n
         → (1 ≤ n) × (n ≤ 66)
     etx e Outside at h = nothing-complete h
     etx e Inside at h =
@@ -102,7 +104,7 @@ step-complete f b n =
     etx e Overlong at h = dropped-complete h
 
     plain : eqb b 2 || eqb b 3 ≡ false → (m : Mode) → placeOf (f .count) (f .mode) ≡ m
-        → plainAt m f b .answer ≡ complete n → (1 ≤ n) × (n ≤ 66)
+        → plainAt m f b .event ≡ Complete n → (1 ≤ n) × (n ≤ 66)
     plain h Outside at = nothing-complete
     plain h Inside at = nothing-complete
     plain h Overlong at = nothing-complete
@@ -122,11 +124,12 @@ module _ (f : Framer) (b : ℕ) where
     step-plain p q = simp (p, q, at)
 
   pub step-ends : placeOf (f .count) (f .mode) ≡ Inside → b ≡ 3
-      → stepOf f b ≡ stepTo (inMode (keeping f b) Outside) (complete (f .count + 1))
+      → stepOf f b ≡ record { framer = inMode (keeping f b) Outside; event = Complete (f .count + 1) }
   unfolding stepOf
   step-ends at e = simp (e, at)
 
-  pub step-outside : placeOf (f .count) (f .mode) ≡ Outside → eqb b 2 ≡ false → stepOf f b ≡ stepTo f nothingYet
+  pub step-outside : placeOf (f .count) (f .mode) ≡ Outside → eqb b 2 ≡ false
+      → stepOf f b ≡ record { framer = f; event = Nothing }
   unfolding stepOf
   step-outside at p = simp (p, at, either)
 
@@ -145,10 +148,11 @@ still-overlong bytes count few b h = step-other _ b Overlong (place-overlong cou
 
 -- it is kept where there is room
 pub step-keeps : (bytes : List ℕ) (count b : ℕ) → count < 66 → eqb b 2 || eqb b 3 ≡ false
-    → stepOf (framerOf bytes count Inside) b ≡ stepTo (framerOf (set bytes count b) (count + 1) Inside) nothingYet
+    → stepOf (framerOf bytes count Inside) b
+    ≡ record { framer = framerOf (set bytes count b) (count + 1) Inside; event = Nothing }
 step-keeps bytes count b room h = step-other _ b Inside (place-inside count room) h
 
 -- and with 66 kept makes the string overlong
 pub step-full : (bytes : List ℕ) (b : ℕ) → eqb b 2 || eqb b 3 ≡ false
-    → stepOf (framerOf bytes 66 Inside) b ≡ stepTo (framerOf bytes 66 Overlong) nothingYet
+    → stepOf (framerOf bytes 66 Inside) b ≡ record { framer = framerOf bytes 66 Overlong; event = Nothing }
 step-full bytes b h = step-other _ b Overlong (place-full 66 (omega arith) (omega arith)) h

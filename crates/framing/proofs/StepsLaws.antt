@@ -8,14 +8,17 @@ use mathlib.Core.Bool.{false}
 use mathlib.Core.List.{List, [], _∷_}
 use lib.ListN.{length, take}
 use Rattle.framing.specs.declared.Framer.{Framer}
-use Rattle.framing.specs.Step.{FeedAnswer, nothingYet, complete, stepOf}
-use Rattle.framing.specs.Feed.{Feeding, feeding, isNothing, later, feedOf}
-use Rattle.framing.specs.Steps.{steps, answerAt, BySteps}
+use Rattle.framing.specs.declared.Event.{Event}
+use Rattle.framing.specs.declared.Event.the-variants.{Nothing, Complete}
+use Rattle.framing.specs.declared.FeedResult.{FeedResult}
+use Rattle.framing.specs.Step.{stepOf}
+use Rattle.framing.specs.Feed.{isNothing, later, feedOf}
+use Rattle.framing.specs.Steps.{steps, eventAt, BySteps}
 use Rattle.framing.proofs.StepLaws.{nothing-complete, step-complete}
 use Rattle.framing.proofs.FeedLaws.{loud-some, feed-cases}
 
 by-steps-none : (f : Framer) (s : List ℕ) (limit : ℕ) → 0 ≡ min limit (length s)
-    → BySteps f s limit (feeding f nothingYet 0)
+    → BySteps f s limit (record { framer = f; event = Nothing; taken = 0 })
 unfolding steps
 by-steps-none f s limit e =
     record {
@@ -31,12 +34,12 @@ module _ (f : Framer) (b : ℕ) (s : List ℕ) (limit : ℕ) where
   abbrev g : Framer
   g = stepOf f b .framer
 
-  abbrev a : FeedAnswer
-  a = stepOf f b .answer
+  abbrev a : Event
+  a = stepOf f b .event
 
-  by-steps-on : a ≡ nothingYet → BySteps g s limit (feedOf g (take limit s))
+  by-steps-on : a ≡ Nothing → BySteps g s limit (feedOf g (take limit s))
       → BySteps f (b ∷ s) (suc limit) (later 1 (feedOf g (take limit s)))
-  unfolding later steps answerAt
+  unfolding later steps eventAt
   by-steps-on e w =
       record {
         within = simp suc-min-suc (omega arith);
@@ -47,17 +50,17 @@ module _ (f : Framer) (b : ℕ) (s : List ℕ) (limit : ℕ) where
         whole = λ z. simp (suc-min-suc, one-add) (ap suc (w .whole z));
       }
     where
-      quiet : (i : ℕ) → i + 1 < 1 + feedOf g (take limit s) .taken → answerAt f (b ∷ s) i ≡ nothingYet
+      quiet : (i : ℕ) → i + 1 < 1 + feedOf g (take limit s) .taken → eventAt f (b ∷ s) i ≡ Nothing
       quiet zero h = e
       quiet (suc i) h = w .quiet i (omega arith)
 
       last : (i : ℕ) → i + 1 ≡ 1 + feedOf g (take limit s) .taken
-          → answerAt f (b ∷ s) i ≡ feedOf g (take limit s) .answer
+          → eventAt f (b ∷ s) i ≡ feedOf g (take limit s) .event
       last zero h = e ∙ sym (w .none (omega arith))
       last (suc i) h = w .last i (omega arith)
 
-  by-steps-stop : isNothing a ≡ false → BySteps f (b ∷ s) (suc limit) (feeding g a 1)
-  unfolding steps answerAt
+  by-steps-stop : isNothing a ≡ false → BySteps f (b ∷ s) (suc limit) (record { framer = g; event = a; taken = 1 })
+  unfolding steps eventAt
   by-steps-stop loud =
       record {
         within = simp suc-min-suc (omega arith);
@@ -68,7 +71,7 @@ module _ (f : Framer) (b : ℕ) (s : List ℕ) (limit : ℕ) where
         whole = λ z. absurd (loud-some a loud z);
       }
     where
-      last : (i : ℕ) → i + 1 ≡ 1 → answerAt f (b ∷ s) i ≡ a
+      last : (i : ℕ) → i + 1 ≡ 1 → eventAt f (b ∷ s) i ≡ a
       last zero h = refl
       last (suc i) h = absurd (omega arith)
 
@@ -87,7 +90,7 @@ pub feed-taken : (f : Framer) (s : List ℕ) (limit : ℕ) → (feedOf f (take l
 feed-taken f s limit =
     (omega (arith, w .within, min-le-right limit (length s)), λ p q. go (r .taken) refl (le-min p q))
   where
-    r : Feeding
+    r : FeedResult
     r = feedOf f (take limit s)
 
     w : BySteps f s limit r
@@ -98,9 +101,9 @@ feed-taken f s limit =
     go (suc t) e h = omega arith
 
 -- a complete string has 1 to 66 bytes, from any state
-pub feed-complete : (f : Framer) (s : List ℕ) (n : ℕ) → feedOf f s .answer ≡ complete n → (1 ≤ n) × (n ≤ 66)
+pub feed-complete : (f : Framer) (s : List ℕ) (n : ℕ) → feedOf f s .event ≡ Complete n → (1 ≤ n) × (n ≤ 66)
 unfolding feedOf later
 feed-complete f [] n = nothing-complete
 feed-complete f (b ∷ s) n =
-    feed-cases (λ r. r .answer ≡ complete n → (1 ≤ n) × (n ≤ 66)) f b s
+    feed-cases (λ r. r .event ≡ Complete n → (1 ≤ n) × (n ≤ 66)) f b s
     (λ quiet. feed-complete (stepOf f b .framer) s n) (λ loud. step-complete f b n)

@@ -6,7 +6,8 @@ use mathlib.Core.List.{List, [], _∷_, _++_}
 use lib.ListN.{length, take, set}
 use Rattle.framing.specs.declared.Mode.the-variants.{Inside}
 use Rattle.framing.specs.declared.Framer.{Framer}
-use Rattle.framing.specs.Step.{nothingYet, complete, framerOf, start, stepTo, stepOf}
+use Rattle.framing.specs.declared.Event.the-variants.{Nothing, Complete}
+use Rattle.framing.specs.Step.{framerOf, start, stepOf}
 use Rattle.framing.specs.Feed.{isNothing, later, feedOf}
 use Rattle.framing.specs.Steps.{steps, BySteps, Alike}
 use Rattle.framing.specs.Framed.{allPlain, Reached, Framed, Finds, Drops}
@@ -23,17 +24,18 @@ pub feed-by-steps : (f : Framer) (s : List ℕ) (limit : ℕ) → BySteps f s li
 feed-by-steps = feed.by-steps
 
 -- how reads cut the input does not matter: a part that ends no string, and then the rest, are fed like the whole
-pub feed-parts : (f : Framer) (s t : List ℕ) → feedOf f s .answer ≡ nothingYet
+pub feed-parts : (f : Framer) (s t : List ℕ) → feedOf f s .event ≡ Nothing
     → feedOf f (s ++ t) ≡ later (length s) (feedOf (feedOf f s .framer) t)
 feed-parts = feed-append
 
 -- nor does what stands after the first string
-pub feed-stopped : (f : Framer) (s t : List ℕ) → isNothing (feedOf f s .answer) ≡ false
+pub feed-stopped : (f : Framer) (s t : List ℕ) → isNothing (feedOf f s .event) ≡ false
     → feedOf f (s ++ t) ≡ feedOf f s
 feed-stopped = feed-append-stop
 
 -- STX restarts from any state
-pub stx-restarts : (f : Framer) → stepOf f 2 ≡ stepTo (framerOf (set (f .bytes) 0 2) 1 Inside) nothingYet
+pub stx-restarts : (f : Framer)
+    → stepOf f 2 ≡ record { framer = framerOf (set (f .bytes) 0 2) 1 Inside; event = Nothing }
 unfolding stepOf
 stx-restarts f = refl
 
@@ -54,16 +56,16 @@ feed-reached = reached-feed
 -- then, at a complete string of n bytes, the state's first n bytes are that string: STX, bytes that are neither STX nor
 -- ETX, and ETX, the last n bytes taken
 pub complete-string : (p s : List ℕ) (limit : ℕ) (f : Framer) → Reached p f → (n : ℕ)
-    → feedOf f (take limit s) .answer ≡ complete n
+    → feedOf f (take limit s) .event ≡ Complete n
     → Framed (p ++ take (feedOf f (take limit s) .taken) s) (feedOf f (take limit s) .framer) n
 complete-string = framed-feed
 
 -- a complete string has 1 to 66 bytes, from any state, also one that no run of the feed gives
-pub step-complete : (f : Framer) (b n : ℕ) → stepOf f b .answer ≡ complete n → (1 ≤ n) × (n ≤ 66)
+pub step-complete : (f : Framer) (b n : ℕ) → stepOf f b .event ≡ Complete n → (1 ≤ n) × (n ≤ 66)
 step-complete = step.step-complete
 
 -- in a feed too
-pub feed-complete : (f : Framer) (s : List ℕ) (n : ℕ) → feedOf f s .answer ≡ complete n → (1 ≤ n) × (n ≤ 66)
+pub feed-complete : (f : Framer) (s : List ℕ) (n : ℕ) → feedOf f s .event ≡ Complete n → (1 ≤ n) × (n ≤ 66)
 feed-complete = feed.feed-complete
 
 module _ (f : Framer) (body rest : List ℕ) (size : length (f .bytes) ≡ 66) (plain : allPlain body ≡ true) where

@@ -7,8 +7,8 @@ use lib.Dec.{eqb}
 use lib.ListN.{length, take}
 use Rattle.framing.specs.declared.Framer.{Framer}
 use Rattle.framing.specs.declared.Mode.the-variants.{Inside}
-use Rattle.framing.specs.Step.{complete, dropped}
-use Rattle.framing.specs.Feed.{Feeding}
+use Rattle.framing.specs.declared.Event.the-variants.{Complete, Dropped}
+use Rattle.framing.specs.declared.FeedResult.{FeedResult}
 
 -- no byte is STX or ETX
 unfoldable pub allPlain : List ℕ → Bool
@@ -40,13 +40,13 @@ pub record Framed (taken : List ℕ) (f : Framer) (n : ℕ) : Type 0 where
   pub counted : n ≡ length body + 2
   pub few : n ≤ 66
 
--- a feed's answer is this string, complete, and its bytes are those taken
-pub record Finds (string : List ℕ) (r : Feeding) : Type 0 where
-  pub answer : r .answer ≡ complete (length string)
+-- a feed's event is this string, complete, and its bytes are those taken
+pub record Finds (string : List ℕ) (r : FeedResult) : Type 0 where
+  pub event : r .event ≡ Complete (length string)
   pub taken : r .taken ≡ length string
   pub kept : take (length string) (r .framer .bytes) ≡ string
 
--- a feed's answer is that a string of n bytes, those taken, was dropped
-pub record Drops (n : ℕ) (r : Feeding) : Type 0 where
-  pub answer : r .answer ≡ dropped
+-- a feed's event is that a string of n bytes, those taken, was dropped
+pub record Drops (n : ℕ) (r : FeedResult) : Type 0 where
+  pub event : r .event ≡ Dropped
   pub taken : r .taken ≡ n

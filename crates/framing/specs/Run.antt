@@ -7,12 +7,14 @@ use lib.Dec.{eqb}
 use lib.ListN.{length, getD, set, drop}
 use Rattle.framing.specs.declared.Framer.{Framer}
 use Rattle.framing.specs.declared.single.Moved.{Moved}
-use Rattle.framing.specs.Step.{Stepped, nothingYet, stepTo, answerOf, framerOf, stepOf}
+use Rattle.framing.specs.declared.Event.the-variants.{Nothing}
+use Rattle.framing.specs.declared.StepResult.{StepResult}
+use Rattle.framing.specs.Step.{framerOf, stepOf}
 use Rattle.framing.specs.Feed.{later, feedOf}
 
--- the result of a run of bytes, with the bytes kept beside it
-abbrev pub moved : List ℕ → Moved → Stepped
-moved bytes m = stepTo (framerOf bytes (m .count) (m .mode)) (answerOf (m .event))
+-- the result of a step, from the kept bytes and what the function returns beside them
+abbrev pub moved : List ℕ → Moved → StepResult
+moved bytes m = record { framer = framerOf bytes (m .count) (m .mode); event = m .event }
 
 -- fed s from the state f, the feed takes n bytes with no event, and is then in the state g
 pub record Taken (f : Framer) (s : List ℕ) (n : ℕ) (g : Framer) : Type 0 where
@@ -21,7 +23,7 @@ pub record Taken (f : Framer) (s : List ℕ) (n : ℕ) (g : Framer) : Type 0 whe
 
 -- bytes other than STX and `last` leave the state f as it is
 abbrev pub Still : Framer → ℕ → Type 0
-Still f last = (b : ℕ) → eqb b 2 || eqb b last ≡ false → stepOf f b ≡ stepTo f nothingYet
+Still f last = (b : ℕ) → eqb b 2 || eqb b last ≡ false → stepOf f b ≡ record { framer = f; event = Nothing }
 
 -- the first n bytes of s are taken with no effect, in a state that bytes other than STX and `last` leave as it is
 abbrev pub Skipped : List ℕ → ℕ → ℕ → Type 0

@@ -1,8 +1,8 @@
 // Cuts the strings that STX and ETX enclose out of a stream of bytes.
 ghost use mathlib.Core.Path.{_≡_};
 ghost use lib.ListN.{take};
-ghost use Rattle.framing.specs.Step.{start, framerOf, answerOf, stepped, stepOf};
-ghost use Rattle.framing.specs.Feed.{fed, feeding, feedOf};
+ghost use Rattle.framing.specs.Step.{start, framerOf, stepOf};
+ghost use Rattle.framing.specs.Feed.{feedOf};
 
 mod runs;
 mod single;
@@ -29,13 +29,13 @@ pub enum Event {
 }
 
 // The state after a byte, with the byte's event.
-pub struct Step {
+pub struct StepResult {
     pub framer: Framer,
     pub event: Event,
 }
 
 // The state after the bytes taken of a slice, with the event of the last.
-pub struct Fed {
+pub struct FeedResult {
     pub framer: Framer,
     pub event: Event,
     pub taken: usize,
@@ -54,8 +54,8 @@ impl Framer {
     }
 
     // The state after the byte b, with what the byte ends.
-    pub fn step(self, b: u8) -> Step
-        ensures { λ r. ⌜ stepped r ≡ stepOf self b ⌝ }
+    pub fn step(self, b: u8) -> StepResult
+        ensures { λ r. ⌜ r ≡ stepOf self b ⌝ }
     {
         let mut bytes = self.bytes;
         let mode = self.mode;
@@ -67,12 +67,12 @@ impl Framer {
             count: moved.count,
             mode,
         };
-        Step { framer, event }
+        StepResult { framer, event }
     }
 
     // Takes bytes of s up to its end, to `limit` bytes, or to the first that ends a string.
-    pub fn feed(self, s: &[u8], limit: usize) -> Fed
-        ensures { λ r. ⌜ fed r ≡ feedOf self (take limit (now (s .entry))) ⌝ }
+    pub fn feed(self, s: &[u8], limit: usize) -> FeedResult
+        ensures { λ r. ⌜ r ≡ feedOf self (take limit (now (s .entry))) ⌝ }
     {
         if limit < s.len() {
             self.feed_all(&s[..limit])
@@ -82,8 +82,8 @@ impl Framer {
     }
 
     // The same with no limit.
-    fn feed_all(self, s: &[u8]) -> Fed
-        ensures { λ r. ⌜ fed r ≡ feedOf self (now (s .entry)) ⌝ }
+    fn feed_all(self, s: &[u8]) -> FeedResult
+        ensures { λ r. ⌜ r ≡ feedOf self (now (s .entry)) ⌝ }
     {
         let mut bytes = self.bytes;
         let mut count = self.count;
@@ -111,11 +111,11 @@ impl Framer {
 }
 
 // What a feed returns that has taken so many bytes.
-fn fed_to(bytes: [u8; 66], count: usize, mode: Mode, event: Event, taken: usize) -> Fed
-    ensures { λ r. ⌜ fed r ≡ feeding (framerOf bytes count mode) (answerOf event) taken ⌝ }
+fn fed_to(bytes: [u8; 66], count: usize, mode: Mode, event: Event, taken: usize) -> FeedResult
+    ensures { λ r. ⌜ r ≡ record { framer = framerOf bytes count mode; event = event; taken = taken } ⌝ }
 {
     let framer = Framer { bytes, count, mode };
-    Fed {
+    FeedResult {
         framer,
         event,
         taken,

@@ -2,7 +2,7 @@
 use crate::Event;
 use crate::Mode;
 ghost use mathlib.Core.Path.{_≡_};
-ghost use Rattle.framing.specs.Step.{framerOf, answerOf, placeOf, stepOf};
+ghost use Rattle.framing.specs.Step.{framerOf, placeOf, stepOf};
 ghost use Rattle.framing.specs.Feed.{isNothing};
 ghost use Rattle.framing.specs.Run.{moved};
 
@@ -15,7 +15,7 @@ pub(crate) struct Moved {
 
 // Whether the event ends no string.
 pub(crate) fn is_nothing(event: Event) -> bool
-    ensures { λ r. ⌜ r ≡ isNothing (answerOf event) ⌝ }
+    ensures { λ r. ⌜ r ≡ isNothing event ⌝ }
 {
     match event {
         Event::Nothing => true,

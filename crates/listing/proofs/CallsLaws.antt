@@ -121,13 +121,13 @@ module _ (l : Listing) (s buffer out : List ℕ) (r : Listed) (e : listedInto r 
 module _ (l : Listing) (frame : List ℕ) where
   whole-text : feedOf (l .framer) frame .taken ≡ length frame
       → textOf l frame
-      ≡ itemLine (itemOf (feedOf (l .framer) frame .framer .bytes) (feedOf (l .framer) frame .answer))
+      ≡ itemLine (itemOf (feedOf (l .framer) frame .framer .bytes) (feedOf (l .framer) frame .event))
   whole-text e =
       ap (textOf l) (sym (take-length frame) ∙ ap (λ (n : ℕ). take n frame) (sym e)) ∙ agrees frame l .text
 
   pub found-text : Finds frame (feedOf (l .framer) frame) → textOf l frame ≡ itemLine (string (readString frame))
-  found-text f = whole-text (f .taken) ∙ rw (f .answer, f .kept)
+  found-text f = whole-text (f .taken) ∙ rw (f .event, f .kept)
 
   pub dropped-text : (n : ℕ) → n ≡ length frame → Drops n (feedOf (l .framer) frame)
       → textOf l frame ≡ itemLine overlong
-  dropped-text n e f = whole-text (f .taken ∙ e) ∙ rw (f .answer)
+  dropped-text n e f = whole-text (f .taken ∙ e) ∙ rw (f .event)

@@ -6,8 +6,10 @@ use mathlib.Core.Path.{_≡_, refl, sym, ap, _∙_}
 use mathlib.Core.List.{List, [], _∷_, _++_, append-assoc, append-nil}
 use borrow.Author.Tests.{lt-ltb, le-ltb}
 use lib.ListN.{length, take, drop}
-use Rattle.framing.specs.Step.{nothingYet, stepOf}
-use Rattle.framing.specs.Feed.{Feeding, feeding, later, feedOf}
+use Rattle.framing.specs.declared.Event.the-variants.{Nothing}
+use Rattle.framing.specs.declared.FeedResult.{FeedResult}
+use Rattle.framing.specs.Step.{stepOf}
+use Rattle.framing.specs.Feed.{later, feedOf}
 use Rattle.framing.proofs.FeedLaws.{feed-cases}
 use Rattle.listing.specs.declared.Listing.{Listing}
 use Rattle.listing.specs.Items.{Item, itemOf, itemLine, counted}
@@ -42,19 +44,19 @@ unfolding takenOf
 taken-on l b s room h = simp (le-ltb _ _ h)
 
 -- ---- what the feed takes of s has one item, the last byte's
-abbrev item : Feeding → Item
-item r = itemOf (r .framer .bytes) (r .answer)
+abbrev item : FeedResult → Item
+item r = itemOf (r .framer .bytes) (r .event)
 
-abbrev reached : Listing → Feeding → Listing
+abbrev reached : Listing → FeedResult → Listing
 reached l r = record { framer = r .framer; totals = counted (l .totals) (item r) }
 
-pub record Agrees (l : Listing) (s : List ℕ) (r : Feeding) : Type 0 where
+pub record Agrees (l : Listing) (s : List ℕ) (r : FeedResult) : Type 0 where
   pub state : after l (take (r .taken) s) ≡ reached l r
   pub text : textOf l (take (r .taken) s) ≡ itemLine (item r)
   pub goes : (room : ℕ) → 35 ≤ room
       → takenOf l s room ≡ r .taken + takenOf (reached l r) (drop (r .taken) s) (room - length (itemLine (item r)))
 
-agrees-none : (l : Listing) → Agrees l [] (feeding (l .framer) nothingYet 0)
+agrees-none : (l : Listing) → Agrees l [] (record { framer = l .framer; event = Nothing; taken = 0 })
 unfolding after textOf takenOf itemLine counted
 agrees-none l = record { state = refl; text = refl; goes = λ room h. refl }
 
@@ -63,15 +65,15 @@ module _ (l : Listing) (b : ℕ) (s : List ℕ) where
   abbrev onward : Listing
   onward = record { framer = stepOf (l .framer) b .framer; totals = l .totals }
 
-  still : stepOf (l .framer) b .answer ≡ nothingYet → stepListing l b ≡ onward
+  still : stepOf (l .framer) b .event ≡ Nothing → stepListing l b ≡ onward
   unfolding counted
   still quiet = simp quiet
 
-  silent : stepOf (l .framer) b .answer ≡ nothingYet → itemLine (itemAt l b) ≡ []
+  silent : stepOf (l .framer) b .event ≡ Nothing → itemLine (itemAt l b) ≡ []
   unfolding itemLine
   silent quiet = simp quiet
 
-  agrees-on : stepOf (l .framer) b .answer ≡ nothingYet → (r : Feeding) → Agrees onward s r
+  agrees-on : stepOf (l .framer) b .event ≡ Nothing → (r : FeedResult) → Agrees onward s r
       → Agrees l (b ∷ s) (later 1 r)
   unfolding after textOf later
   agrees-on quiet r h =
@@ -95,7 +97,9 @@ module _ (l : Listing) (b : ℕ) (s : List ℕ) where
             ∙ rw one-add (sym (suc-add (r .taken) _));
       }
 
-  agrees-stop : Agrees l (b ∷ s) (feeding (stepOf (l .framer) b .framer) (stepOf (l .framer) b .answer) 1)
+  agrees-stop :
+      Agrees l (b ∷ s)
+      (record { framer = stepOf (l .framer) b .framer; event = stepOf (l .framer) b .event; taken = 1 })
   unfolding after textOf
   agrees-stop =
       record {

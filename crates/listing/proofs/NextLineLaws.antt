@@ -5,9 +5,10 @@ use mathlib.Core.Path.{_≡_, refl, sym, ap, _∙_}
 use mathlib.Core.List.{List}
 use lib.ListN.{length, take}
 use lib.Seq.{take-length, length-take-le}
-use Rattle.framing.specs.Step.{FeedAnswer, nothingYet, complete, dropped}
-use Rattle.framing.specs.Feed.{Feeding, fed, feedOf}
-use Rattle.framing.specs.declared.Fed.{Fed}
+use Rattle.framing.specs.declared.Event.{Event}
+use Rattle.framing.specs.declared.Event.the-variants.{Nothing, Complete, Dropped}
+use Rattle.framing.specs.declared.FeedResult.{FeedResult}
+use Rattle.framing.specs.Feed.{feedOf}
 use Rattle.framing.proofs.StepsLaws.{feed-taken, feed-complete}
 use Rattle.listing.specs.declared.Listing.{Listing}
 use Rattle.listing_lines.specs.declared.Totals.{Totals}
@@ -16,26 +17,26 @@ use Rattle.listing.specs.Items.{Item, Within, itemOf, itemLine, Shows, c
 use Rattle.listing.specs.NextLine.{ListsNext}
 use Rattle.listing.proofs.ListingLaws.{Agrees, agrees}
 
-within-few : (a : FeedAnswer) (bytes : List ℕ) → length bytes ≡ 66 → ((n : ℕ) → a ≡ complete n → n ≤ 66)
+within-few : (a : Event) (bytes : List ℕ) → length bytes ≡ 66 → ((n : ℕ) → a ≡ Complete n → n ≤ 66)
     → Within a bytes
-within-few nothingYet bytes size few = tt
-within-few (complete n) bytes size few = let h : n ≤ 66 = few n refl in omega arith
-within-few dropped bytes size few = tt
+within-few Nothing bytes size few = tt
+within-few (Complete n) bytes size few = let h : n ≤ 66 = few n refl in omega arith
+within-few Dropped bytes size few = tt
 
-module _ (l : Listing) (s : List ℕ) (r : Fed) (e : fed r ≡ feedOf (l .framer) (take (length s) s)) where
-  whole : fed r ≡ feedOf (l .framer) s
+module _ (l : Listing) (s : List ℕ) (r : FeedResult) (e : r ≡ feedOf (l .framer) (take (length s) s)) where
+  whole : r ≡ feedOf (l .framer) s
   whole = rw take-length at e
 
   -- a complete string is no longer than the bytes of the state
-  pub next-within : length (r .framer .bytes) ≡ 66 → Within (fed r .answer) (r .framer .bytes)
+  pub next-within : length (r .framer .bytes) ≡ 66 → Within (r .event) (r .framer .bytes)
   next-within size =
-      within-few (fed r .answer) (r .framer .bytes) size
-      (λ n q. feed-complete (l .framer) s n (sym (ap (λ (f : Feeding). f .answer) whole) ∙ q) .1)
+      within-few (r .event) (r .framer .bytes) size
+      (λ n q. feed-complete (l .framer) s n (sym (ap (λ (f : FeedResult). f .event) whole) ∙ q) .1)
 
-  next-agrees : Agrees l s (fed r)
+  next-agrees : Agrees l s r
   next-agrees = rw whole (agrees s l)
 
-  pub lists-next : (i : Item) → i ≡ itemOf (r .framer .bytes) (fed r .answer)
+  pub lists-next : (i : Item) → i ≡ itemOf (r .framer .bytes) (r .event)
       → (totals : Totals) → totals ≡ counted (l .totals) i → (line : Line) → Shows line i
       → ListsNext l s (record { listing = record { framer = r .framer; totals = totals }; line = line; taken = r .taken })
   lists-next i q totals t line shows =
@@ -50,11 +51,11 @@ module _ (l : Listing) (s : List ℕ) (r : Fed) (e : fed r ≡ feedOf (l .framer
       }
     where
       taken : r .taken ≡ feedOf (l .framer) (take (length s) s) .taken
-      taken = ap (λ (f : Feeding). f .taken) e
+      taken = ap (λ (f : FeedResult). f .taken) e
 
       listing : _≡_ {A = Listing} (record { framer = r .framer; totals = totals })
-          (record { framer = r .framer; totals = counted (l .totals) (itemOf (r .framer .bytes) (fed r .answer)) })
+          (record { framer = r .framer; totals = counted (l .totals) (itemOf (r .framer .bytes) (r .event)) })
       listing = rw (t, q)
 
-      size : line .length ≡ length (itemLine (itemOf (r .framer .bytes) (fed r .answer)))
+      size : line .length ≡ length (itemLine (itemOf (r .framer .bytes) (r .event)))
       size = sym (length-take-le (line .length) (line .text) (shows .fits)) ∙ ap length (shows .line ∙ ap itemLine q)

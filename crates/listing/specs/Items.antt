@@ -8,7 +8,8 @@ use Rattle.clock_time.specs.declared.ClockTime.{ClockTime}
 use Rattle.clock_time.specs.Lists.{ascii}
 use Rattle.time_string.specs.declared.Kind.{Kind}
 use Rattle.time_string.specs.Kind.{Reading, readingTime, kindOf, readAs}
-use Rattle.framing.specs.Step.{FeedAnswer, nothingYet, complete, dropped}
+use Rattle.framing.specs.declared.Event.{Event}
+use Rattle.framing.specs.declared.Event.the-variants.{Nothing, Complete, Dropped}
 use Rattle.listing_lines.specs.Line.{lineOf}
 use Rattle.listing_lines.specs.Numeral.{numeral}
 use Rattle.listing_lines.specs.declared.Totals.{Totals}
@@ -39,16 +40,16 @@ pub data Item : Type 0 where
   overlong : Item
 
 -- "a complete string of n bytes [..] the state's first n bytes are then the string" (01, The serial feed)
-abbrev pub itemOf : List ℕ → FeedAnswer → Item
-itemOf bytes nothingYet = nothing
-itemOf bytes (complete n) = string (readString (take n bytes))
-itemOf bytes dropped = overlong
+abbrev pub itemOf : List ℕ → Event → Item
+itemOf bytes Nothing = nothing
+itemOf bytes (Complete n) = string (readString (take n bytes))
+itemOf bytes Dropped = overlong
 
 -- a complete string is not longer than the bytes of the state
-abbrev pub Within : FeedAnswer → List ℕ → Type 0
-Within nothingYet bytes = Unit {0}
-Within (complete n) bytes = n ≤ length bytes
-Within dropped bytes = Unit {0}
+abbrev pub Within : Event → List ℕ → Type 0
+Within Nothing bytes = Unit {0}
+Within (Complete n) bytes = n ≤ length bytes
+Within Dropped bytes = Unit {0}
 
 -- the function's entry as an item
 abbrev pub entryItem : Entry → Item

@@ -18,7 +18,7 @@ start = record { framer = feed.start; totals = record { frames = 0; refused = 0;
 
 -- what the byte b brings
 abbrev pub itemAt : Listing → ℕ → Item
-itemAt l b = itemOf (stepOf (l .framer) b .framer .bytes) (stepOf (l .framer) b .answer)
+itemAt l b = itemOf (stepOf (l .framer) b .framer .bytes) (stepOf (l .framer) b .event)
 
 -- the state after the byte b
 abbrev pub stepListing : Listing → ℕ → Listing

@@ -9,7 +9,6 @@ ghost use mathlib.Core.Path.{_≡_};
 ghost use Prim.Native.Nat.{_<_};
 ghost use Rattle.clock_time.specs.Errors.{refused};
 ghost use Rattle.time_string.specs.Kind.{timeAnswer};
-ghost use Rattle.framing.specs.Step.{answerOf};
 ghost use Rattle.listing.specs.Items.{clockAnswer, readString, string, itemOf, Within, entryItem, Shows, counted};
 
 // What an event of the feed brings to the listing.
@@ -51,8 +50,8 @@ fn read_string(s: &[u8]) -> Entry
 
 // The entry of an event, where `bytes` are those of the state after it.
 pub(crate) fn entry_at(bytes: &[u8], event: Event) -> Entry
-    requires { ⌜ Within (answerOf event) (now bytes) ⌝ }
-    ensures { λ r. ⌜ entryItem r ≡ itemOf (now (bytes .entry)) (answerOf event) ⌝ }
+    requires { ⌜ Within event (now bytes) ⌝ }
+    ensures { λ r. ⌜ entryItem r ≡ itemOf (now (bytes .entry)) event ⌝ }
 {
     match event {
         Event::Nothing => Entry::Nothing,

@@ -4,7 +4,6 @@ use Prim.Native.Nat.{_≤_}
 use denote.Ref.{now}
 use lib.ListN.{length}
 use borrow.Author.Tests.{lt-ltb}
-use Rattle.framing.specs.Step.{answerOf}
 use Rattle.feed_state.specs.Feed.{eventNumber, feedInto}
 use Rattle.feed_state.proofs.FeedLaws.{fed-small, state-small, feed-done}
 use Rattle.feed_state.proofs.feed.Statement.{statement}
@@ -15,7 +14,7 @@ unfolding feedInto
 returns c = simp (lt-ltb (length (now (c .before .before .before .args .state))) 68 (omega arith))
 
 small : (c : tie.After-feed)
-    → (c .feed .result .framer .count ≤ 255) × (eventNumber (answerOf (c .feed .result .event)) ≤ 255)
+    → (c .feed .result .framer .count ≤ 255) × (eventNumber (c .feed .result .event) ≤ 255)
 small c =
     let l = c .before in
     let s = l .before .before .before .before in

@@ -18,7 +18,7 @@ use Rattle.framing.specs.declared.Event.{Event}
 use Rattle.framing.specs.declared.Event.the-variants.{Nothing}
 use Rattle.framing.specs.declared.FeedResult.{FeedResult}
 use Rattle.framing.specs.Step.{placeOf, etxAt, plainAt, stepOf}
-use Rattle.framing.specs.Feed.{isNothing, later, feedOf}
+use Rattle.framing.specs.Feed.{isNothing, afterTaking, feedOf}
 use Rattle.framing.proofs.StepLaws.{inside-room, step-cases}
 use Rattle.clock_time.specs.Called.{called, left}
 use Rattle.feed_state.specs.Feed.{modeNumber, framerIn, stateBytes, eventNumber, feedMemory, feedInto}
@@ -30,7 +30,7 @@ module _
     (step : (f : Framer) (b : ℕ) → P f Nothing → P (stepOf f b .framer) (stepOf f b .event))
   where
     feed-keeps : (s : List ℕ) (f : Framer) → P f Nothing → P (feedOf f s .framer) (feedOf f s .event)
-    unfolding feedOf later
+    unfolding feedOf afterTaking
     feed-keeps [] f h = h
     feed-keeps (b ∷ s) f h =
         let w = step f b h in
@@ -38,7 +38,7 @@ module _
       where
         all : Bool → FeedResult
         all t =
-            cond t (later 1 (feedOf (stepOf f b .framer) s))
+            cond t (afterTaking 1 (feedOf (stepOf f b .framer) s))
             (record { framer = stepOf f b .framer; event = stepOf f b .event; taken = 1 })
 
         go : (t : Bool) → P (stepOf f b .framer) (stepOf f b .event)

@@ -13,7 +13,7 @@ use Rattle.framing.specs.declared.Framer.{Framer}
 use Rattle.framing.specs.declared.StepResult.{StepResult}
 use Rattle.framing.specs.declared.FeedResult.{FeedResult}
 use Rattle.framing.specs.Step.{framerOf, placeOf, etxAt, plainAt, stx, stepOf}
-use Rattle.framing.specs.Feed.{isNothing, later, feedOf}
+use Rattle.framing.specs.Feed.{isNothing, afterTaking, feedOf}
 use Rattle.framing.specs.Steps.{Alike}
 use Rattle.framing.proofs.StepLaws.{inside-room}
 use Rattle.framing.proofs.FeedLaws.{feed-cases, feed-on, feed-stop}
@@ -87,7 +87,7 @@ module _ (f : Framer) (y : List ℕ) (w : Twins f y) where
   twins-step b = twins-at b (eqb b 2) (eqb b 3) (placeOf (f .count) (f .mode)) refl
 
 twins-feed : (s : List ℕ) (f : Framer) (y : List ℕ) → Twins f y → TwinFeeds (feedOf f s) (feedOf (other f y) s)
-unfolding feedOf later
+unfolding feedOf afterTaking
 twins-feed [] f y w = record { bytes = y; same = refl; twins = w }
 twins-feed (b ∷ s) f y w =
     let st = twins-step f y w b in
@@ -98,7 +98,7 @@ twins-feed (b ∷ s) f y w =
     record {
       bytes = ih .bytes;
       same =
-          feed-on (other f y) g (stepOf f b .event) b s (st .same) (ap isNothing quiet) ∙ ap (later 1) (ih .same);
+          feed-on (other f y) g (stepOf f b .event) b s (st .same) (ap isNothing quiet) ∙ ap (afterTaking 1) (ih .same);
       twins = ih .twins;
     })
     (λ loud.
@@ -111,7 +111,7 @@ twins-feed (b ∷ s) f y w =
 -- fed STX and then s, any two states answer alike
 pub alike-stx : (f g : Framer) (s : List ℕ) → length (f .bytes) ≡ 66 → length (g .bytes) ≡ 66
     → Alike (feedOf f (2 ∷ s)) (feedOf g (2 ∷ s))
-unfolding feedOf later stepOf
+unfolding feedOf afterTaking stepOf
 alike-stx f g s p q =
     let t = twins-feed s (stx f .framer) (set (g .bytes) 0 2) (twins-stx f (g .bytes) p q) in
     record {

@@ -13,19 +13,19 @@ use Rattle.framing.specs.declared.Event.{Event}
 use Rattle.framing.specs.declared.Event.the-variants.{Nothing, Complete, Dropped}
 use Rattle.framing.specs.declared.FeedResult.{FeedResult}
 use Rattle.framing.specs.Step.{stepOf}
-use Rattle.framing.specs.Feed.{isNothing, later, feedOf}
+use Rattle.framing.specs.Feed.{isNothing, afterTaking, feedOf}
 use Rattle.framing.specs.Run.{Taken}
 
-pub later-zero : (r : FeedResult) → later 0 r ≡ r
-unfolding later
-later-zero r = simp zero-add
+pub after-taking-zero : (r : FeedResult) → afterTaking 0 r ≡ r
+unfolding afterTaking
+after-taking-zero r = simp zero-add
 
-pub later-later : (m n : ℕ) (r : FeedResult) → later m (later n r) ≡ later (m + n) r
-unfolding later
-later-later m n r = simp add-assoc
+pub after-taking-twice : (m n : ℕ) (r : FeedResult) → afterTaking m (afterTaking n r) ≡ afterTaking (m + n) r
+unfolding afterTaking
+after-taking-twice m n r = simp add-assoc
 
-pub later-one : (n : ℕ) (r : FeedResult) → later 1 (later n r) ≡ later (suc n) r
-later-one n r = simp (later-later, one-add)
+pub after-taking-one : (n : ℕ) (r : FeedResult) → afterTaking 1 (afterTaking n r) ≡ afterTaking (suc n) r
+after-taking-one n r = simp (after-taking-twice, one-add)
 
 pub feed-end : (f : Framer) (s : List ℕ) (i : ℕ) → length s ≤ i
     → feedOf f (drop i s) ≡ record { framer = f; event = Nothing; taken = 0 }
@@ -42,7 +42,7 @@ loud-some a loud e = true≢false (sym (ap isNothing e) ∙ loud)
 
 -- what holds of a feed's outcome, by whether the first byte ends a string
 pub feed-cases : (P : FeedResult → Type 0) (f : Framer) (b : ℕ) (s : List ℕ)
-    → (stepOf f b .event ≡ Nothing → P (later 1 (feedOf (stepOf f b .framer) s)))
+    → (stepOf f b .event ≡ Nothing → P (afterTaking 1 (feedOf (stepOf f b .framer) s)))
     → (isNothing (stepOf f b .event) ≡ false
     → P (record { framer = stepOf f b .framer; event = stepOf f b .event; taken = 1 }))
     → P (feedOf f (b ∷ s))
@@ -50,14 +50,14 @@ unfolding feedOf
 feed-cases P f b s on stop = go (isNothing (stepOf f b .event)) refl
   where
     go : (t : Bool) → isNothing (stepOf f b .event) ≡ t
-        → P (cond t (later 1 (feedOf (stepOf f b .framer) s))
+        → P (cond t (afterTaking 1 (feedOf (stepOf f b .framer) s))
         (record { framer = stepOf f b .framer; event = stepOf f b .event; taken = 1 }))
     go true e = on (nothing-yet (stepOf f b .event) e)
     go false e = stop e
 
 module _ (f g : Framer) (a : Event) (b : ℕ) (s : List ℕ) (step : stepOf f b ≡ record { framer = g; event = a }) where
   -- a byte that ends nothing, and the rest
-  pub feed-on : isNothing a ≡ true → feedOf f (b ∷ s) ≡ later 1 (feedOf g s)
+  pub feed-on : isNothing a ≡ true → feedOf f (b ∷ s) ≡ afterTaking 1 (feedOf g s)
   unfolding feedOf
   feed-on quiet = simp (step, quiet)
 
@@ -72,7 +72,7 @@ rest s i = take-all (length s - i) (drop i s) (omega (arith, length-drop i s))
 
 module _ (f : Framer) (s : List ℕ) where
   pub taken-none : Taken f s 0 f
-  taken-none = record { within = omega arith; goes = simp later-zero }
+  taken-none = record { within = omega arith; goes = simp after-taking-zero }
 
   module _ (i : ℕ) (g : Framer) (t : Taken f s i g) where
     -- what is taken of the rest is taken of the whole
@@ -81,12 +81,12 @@ module _ (f : Framer) (s : List ℕ) where
         let u : Taken g (drop i s) n h = rw (rest s i) at part in
         record {
           within = omega (arith, length-drop i s);
-          goes = t .goes ∙ ap (later i) (u .goes) ∙ simp (later-later, drop-drop);
+          goes = t .goes ∙ ap (afterTaking i) (u .goes) ∙ simp (after-taking-twice, drop-drop);
         }
 
     pub taken-end : length s ≤ i → feedOf f s ≡ record { framer = g; event = Nothing; taken = i }
-    unfolding later
-    taken-end q = t .goes ∙ ap (later i) (feed-end g s i q) ∙ simp add-zero
+    unfolding afterTaking
+    taken-end q = t .goes ∙ ap (afterTaking i) (feed-end g s i q) ∙ simp add-zero
 
     module _
         (h : Framer)
@@ -102,11 +102,11 @@ module _ (f : Framer) (s : List ℕ) where
             record {
               within = omega arith;
               goes =
-                  t .goes ∙ ap (later i) (at-place ∙ feed-on g h a (getD s i 0) (drop (i + 1) s) step quiet)
-                  ∙ simp later-later;
+                  t .goes ∙ ap (afterTaking i) (at-place ∙ feed-on g h a (getD s i 0) (drop (i + 1) s) step quiet)
+                  ∙ simp after-taking-twice;
             }
 
         pub taken-stop : isNothing a ≡ false → feedOf f s ≡ record { framer = h; event = a; taken = i + 1 }
-        unfolding later
+        unfolding afterTaking
         taken-stop loud =
-            t .goes ∙ ap (later i) (at-place ∙ feed-stop g h a (getD s i 0) (drop (i + 1) s) step loud)
+            t .goes ∙ ap (afterTaking i) (at-place ∙ feed-stop g h a (getD s i 0) (drop (i + 1) s) step loud)

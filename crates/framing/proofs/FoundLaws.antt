@@ -14,7 +14,7 @@ use Rattle.framing.specs.declared.Framer.{Framer}
 use Rattle.framing.specs.declared.Event.the-variants.{Nothing, Complete, Dropped}
 use Rattle.framing.specs.declared.FeedResult.{FeedResult}
 use Rattle.framing.specs.Step.{framerOf, stx, stepOf}
-use Rattle.framing.specs.Feed.{later, feedOf}
+use Rattle.framing.specs.Feed.{afterTaking, feedOf}
 use Rattle.framing.specs.Framed.{allPlain, Finds, Drops}
 use Rattle.framing.proofs.StepLaws.{place-inside, place-full, place-overlong, still-overlong}
 use Rattle.framing.proofs.StepLaws.{step-stx, step-etx, step-ends, step-keeps, step-full}
@@ -50,7 +50,7 @@ module _ (rest : List ℕ) where
   finds-rest : (body x bytes : List ℕ) (count n : ℕ) → length bytes ≡ 66 → n ≡ count + length body + 1 → n ≤ 66
       → take count bytes ≡ x → allPlain body ≡ true
       → FindsRest (x ++ (body ++ 3 ∷ [])) n (length body + 1) (feedOf (framerOf bytes count Inside) (body ++ 3 ∷ rest))
-  unfolding later
+  unfolding afterTaking
   finds-rest [] x bytes count n size e few kept plain = finds-end x bytes count n size (omega arith) few kept
   finds-rest (b ∷ body) x bytes count n size e few kept plain =
       let p = plain-cons b body plain in
@@ -73,7 +73,7 @@ module _ (rest : List ℕ) where
 
   drops-more : (f g : Framer) (b n : ℕ) (s : List ℕ) → stepOf f b ≡ record { framer = g; event = Nothing }
       → Drops n (feedOf g s) → Drops (n + 1) (feedOf f (b ∷ s))
-  unfolding later
+  unfolding afterTaking
   drops-more f g b n s step w =
       rw (feed-on f g Nothing b s step refl) (record { event = w .event; taken = omega (arith, w .taken) })
 
@@ -115,11 +115,11 @@ module _ (rest : List ℕ) where
 
 module _ (f : Framer) (body rest : List ℕ) (size : length (f .bytes) ≡ 66) (plain : allPlain body ≡ true) where
   -- STX first, from any state
-  feed-stx : feedOf f (2 ∷ (body ++ 3 ∷ rest)) ≡ later 1 (feedOf (stx f .framer) (body ++ 3 ∷ rest))
+  feed-stx : feedOf f (2 ∷ (body ++ 3 ∷ rest)) ≡ afterTaking 1 (feedOf (stx f .framer) (body ++ 3 ∷ rest))
   feed-stx = feed-on f (stx f .framer) Nothing 2 (body ++ 3 ∷ rest) (step-stx f 2 refl) refl
 
   pub string-found : length body + 2 ≤ 66 → Finds (2 ∷ body ++ 3 ∷ []) (feedOf f (2 ∷ body ++ 3 ∷ rest))
-  unfolding later
+  unfolding afterTaking
   string-found few =
       let n : length (2 ∷ body ++ 3 ∷ []) ≡ 1 + length body + 1 = simp length-append (omega arith) in
       let w =
@@ -128,7 +128,7 @@ module _ (f : Framer) (body rest : List ℕ) (size : length (f .bytes) ≡ 66) (
       rw feed-stx (record { event = w .event; taken = omega (arith, w .taken); kept = w .kept })
 
   pub overlong-dropped : 66 < length body + 2 → Drops (length body + 2) (feedOf f (2 ∷ body ++ 3 ∷ rest))
-  unfolding later
+  unfolding afterTaking
   overlong-dropped many =
       let w = drops-rest rest body (set (f .bytes) 0 2) 1 (omega arith) (omega arith) plain in
       rw feed-stx (record { event = w .event; taken = omega (arith, w .taken) })

@@ -12,7 +12,7 @@ use Rattle.framing.specs.declared.Event.{Event}
 use Rattle.framing.specs.declared.Event.the-variants.{Nothing, Complete}
 use Rattle.framing.specs.declared.FeedResult.{FeedResult}
 use Rattle.framing.specs.Step.{stepOf}
-use Rattle.framing.specs.Feed.{isNothing, later, feedOf}
+use Rattle.framing.specs.Feed.{isNothing, afterTaking, feedOf}
 use Rattle.framing.specs.Steps.{steps, eventAt, BySteps}
 use Rattle.framing.proofs.StepLaws.{nothing-complete, step-complete}
 use Rattle.framing.proofs.FeedLaws.{loud-some, feed-cases}
@@ -38,8 +38,8 @@ module _ (f : Framer) (b : ℕ) (s : List ℕ) (limit : ℕ) where
   a = stepOf f b .event
 
   by-steps-on : a ≡ Nothing → BySteps g s limit (feedOf g (take limit s))
-      → BySteps f (b ∷ s) (suc limit) (later 1 (feedOf g (take limit s)))
-  unfolding later steps eventAt
+      → BySteps f (b ∷ s) (suc limit) (afterTaking 1 (feedOf g (take limit s)))
+  unfolding afterTaking steps eventAt
   by-steps-on e w =
       record {
         within = simp suc-min-suc (omega arith);
@@ -102,7 +102,7 @@ feed-taken f s limit =
 
 -- a complete string has 1 to 66 bytes, from any state
 pub feed-complete : (f : Framer) (s : List ℕ) (n : ℕ) → feedOf f s .event ≡ Complete n → (1 ≤ n) × (n ≤ 66)
-unfolding feedOf later
+unfolding feedOf afterTaking
 feed-complete f [] n = nothing-complete
 feed-complete f (b ∷ s) n =
     feed-cases (λ r. r .event ≡ Complete n → (1 ≤ n) × (n ≤ 66)) f b s

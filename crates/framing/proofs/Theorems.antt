@@ -8,7 +8,7 @@ use Rattle.framing.specs.declared.Mode.the-variants.{Inside}
 use Rattle.framing.specs.declared.Framer.{Framer}
 use Rattle.framing.specs.declared.Event.the-variants.{Nothing, Complete}
 use Rattle.framing.specs.Step.{framerOf, start, stepOf}
-use Rattle.framing.specs.Feed.{isNothing, later, feedOf}
+use Rattle.framing.specs.Feed.{isNothing, afterTaking, feedOf}
 use Rattle.framing.specs.Steps.{steps, BySteps, Alike}
 use Rattle.framing.specs.Framed.{allPlain, Reached, Framed, Finds, Drops}
 use Rattle.framing.proofs.StepLaws as step
@@ -25,7 +25,7 @@ feed-by-steps = feed.by-steps
 
 -- how reads cut the input does not matter: a part that ends no string, and then the rest, are fed like the whole
 pub feed-parts : (f : Framer) (s t : List ℕ) → feedOf f s .event ≡ Nothing
-    → feedOf f (s ++ t) ≡ later (length s) (feedOf (feedOf f s .framer) t)
+    → feedOf f (s ++ t) ≡ afterTaking (length s) (feedOf (feedOf f s .framer) t)
 feed-parts = feed-append
 
 -- nor does what stands after the first string

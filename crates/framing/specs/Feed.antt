@@ -14,9 +14,9 @@ isNothing Nothing = true
 isNothing (Complete n) = false
 isNothing Dropped = false
 
--- a feed after n bytes that ended nothing
-unfoldable pub later : ℕ → FeedResult → FeedResult
-later n r = record { framer = r .framer; event = r .event; taken = n + r .taken }
+-- the result of a feed that first took n bytes, which ended nothing
+unfoldable pub afterTaking : ℕ → FeedResult → FeedResult
+afterTaking n r = record { framer = r .framer; event = r .event; taken = n + r .taken }
 
 -- "the feed stops after an allowance of bytes that the caller names, at the slice's end, or just after the first
 -- string, complete or dropped. It returns the number of bytes taken, which is the number of single steps." (01, The
@@ -25,5 +25,5 @@ unfoldable pub feedOf : Framer → List ℕ → FeedResult
 feedOf f [] = record { framer = f; event = Nothing; taken = 0 }
 feedOf f (b ∷ s) =
     cond (isNothing (stepOf f b .event))
-    (later 1 (feedOf (stepOf f b .framer) s))
+    (afterTaking 1 (feedOf (stepOf f b .framer) s))
     (record { framer = stepOf f b .framer; event = stepOf f b .event; taken = 1 })

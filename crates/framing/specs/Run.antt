@@ -10,7 +10,7 @@ use Rattle.framing.specs.declared.single.Moved.{Moved}
 use Rattle.framing.specs.declared.Event.the-variants.{Nothing}
 use Rattle.framing.specs.declared.StepResult.{StepResult}
 use Rattle.framing.specs.Step.{framerOf, stepOf}
-use Rattle.framing.specs.Feed.{later, feedOf}
+use Rattle.framing.specs.Feed.{afterTaking, feedOf}
 
 -- the result of a step, from the kept bytes and what the function returns beside them
 abbrev pub moved : List ℕ → Moved → StepResult
@@ -19,7 +19,7 @@ moved bytes m = record { framer = framerOf bytes (m .count) (m .mode); event = m
 -- fed s from the state f, the feed takes n bytes with no event, and is then in the state g
 pub record Taken (f : Framer) (s : List ℕ) (n : ℕ) (g : Framer) : Type 0 where
   pub within : n ≤ length s
-  pub goes : feedOf f s ≡ later n (feedOf g (drop n s))
+  pub goes : feedOf f s ≡ afterTaking n (feedOf g (drop n s))
 
 -- bytes other than STX and `last` leave the state f as it is
 abbrev pub Still : Framer → ℕ → Type 0

@@ -9,7 +9,7 @@ use lib.ListN.{length, take, drop}
 use Rattle.framing.specs.declared.Event.the-variants.{Nothing}
 use Rattle.framing.specs.declared.FeedResult.{FeedResult}
 use Rattle.framing.specs.Step.{stepOf}
-use Rattle.framing.specs.Feed.{later, feedOf}
+use Rattle.framing.specs.Feed.{afterTaking, feedOf}
 use Rattle.framing.proofs.FeedLaws.{feed-cases}
 use Rattle.listing.specs.declared.Listing.{Listing}
 use Rattle.listing.specs.Items.{Item, itemOf, itemLine, counted}
@@ -74,8 +74,8 @@ module _ (l : Listing) (b : ℕ) (s : List ℕ) where
   silent quiet = simp quiet
 
   agrees-on : stepOf (l .framer) b .event ≡ Nothing → (r : FeedResult) → Agrees onward s r
-      → Agrees l (b ∷ s) (later 1 r)
-  unfolding after textOf later
+      → Agrees l (b ∷ s) (afterTaking 1 r)
+  unfolding after textOf afterTaking
   agrees-on quiet r h =
       record {
         state =

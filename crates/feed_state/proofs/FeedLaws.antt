@@ -17,7 +17,7 @@ use Rattle.framing.specs.declared.Framer.{Framer}
 use Rattle.framing.specs.declared.Event.{Event}
 use Rattle.framing.specs.declared.Event.the-variants.{Nothing}
 use Rattle.framing.specs.declared.FeedResult.{FeedResult}
-use Rattle.framing.specs.Step.{placeOf, etxAt, plainAt, stepOf}
+use Rattle.framing.specs.Step.{effectiveMode, etxAt, plainAt, stepOf}
 use Rattle.framing.specs.Feed.{isNothing, afterTaking, feedOf}
 use Rattle.framing.proofs.StepLaws.{inside-room, step-cases}
 use Rattle.clock_time.specs.Called.{called, left}
@@ -54,12 +54,12 @@ Small f a = (f .count ≤ 255) × (eventNumber a ≤ 255)
 step-small : (f : Framer) (b : ℕ) → Small f Nothing → Small (stepOf f b .framer) (stepOf f b .event)
 step-small f b h = step-cases (λ r. Small (r .framer) (r .event)) f b (λ e. (omega arith, omega arith)) etx plain
   where
-    etx : b ≡ 3 → (m : Mode) → placeOf (f .count) (f .mode) ≡ m → Small (etxAt m f .framer) (etxAt m f .event)
+    etx : b ≡ 3 → (m : Mode) → effectiveMode (f .count) (f .mode) ≡ m → Small (etxAt m f .framer) (etxAt m f .event)
     etx e Outside at = h
     etx e Inside at = let room = inside-room (f .count) (f .mode) at in (omega arith, omega arith)
     etx e Overlong at = (h .0, omega arith)
 
-    plain : eqb b 2 || eqb b 3 ≡ false → (m : Mode) → placeOf (f .count) (f .mode) ≡ m
+    plain : eqb b 2 || eqb b 3 ≡ false → (m : Mode) → effectiveMode (f .count) (f .mode) ≡ m
         → Small (plainAt m f b .framer) (plainAt m f b .event)
     plain e Outside at = h
     plain e Inside at = let room = inside-room (f .count) (f .mode) at in (omega arith, omega arith)
@@ -75,12 +75,12 @@ Whole f a = length (f .bytes) ≡ 66
 step-whole : (f : Framer) (b : ℕ) → length (f .bytes) ≡ 66 → length (stepOf f b .framer .bytes) ≡ 66
 step-whole f b h = step-cases (λ r. length (r .framer .bytes) ≡ 66) f b (λ e. simp length-set h) etx plain
   where
-    etx : b ≡ 3 → (m : Mode) → placeOf (f .count) (f .mode) ≡ m → length (etxAt m f .framer .bytes) ≡ 66
+    etx : b ≡ 3 → (m : Mode) → effectiveMode (f .count) (f .mode) ≡ m → length (etxAt m f .framer .bytes) ≡ 66
     etx e Outside at = h
     etx e Inside at = simp length-set h
     etx e Overlong at = h
 
-    plain : eqb b 2 || eqb b 3 ≡ false → (m : Mode) → placeOf (f .count) (f .mode) ≡ m
+    plain : eqb b 2 || eqb b 3 ≡ false → (m : Mode) → effectiveMode (f .count) (f .mode) ≡ m
         → length (plainAt m f b .framer .bytes) ≡ 66
     plain e Outside at = h
     plain e Inside at = simp length-set h

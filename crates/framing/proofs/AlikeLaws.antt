@@ -12,7 +12,7 @@ use Rattle.framing.specs.declared.Mode.the-variants.{Outside, Inside, Ov
 use Rattle.framing.specs.declared.Framer.{Framer}
 use Rattle.framing.specs.declared.StepResult.{StepResult}
 use Rattle.framing.specs.declared.FeedResult.{FeedResult}
-use Rattle.framing.specs.Step.{framerOf, placeOf, etxAt, plainAt, stx, stepOf}
+use Rattle.framing.specs.Step.{framerOf, effectiveMode, etxAt, plainAt, stx, stepOf}
 use Rattle.framing.specs.Feed.{isNothing, afterTaking, feedOf}
 use Rattle.framing.specs.Steps.{Alike}
 use Rattle.framing.proofs.StepLaws.{inside-room}
@@ -68,7 +68,7 @@ module _ (f : Framer) (y : List ℕ) (w : Twins f y) where
   twins-mode : (mode : Mode) → Twins (framerOf (f .bytes) (f .count) mode) y
   twins-mode mode = record { size = w .size; size-other = w .size-other; few = w .few; kept = w .kept }
 
-  twins-at : (b : ℕ) (t u : Bool) (m : Mode) → placeOf (f .count) (f .mode) ≡ m
+  twins-at : (b : ℕ) (t u : Bool) (m : Mode) → effectiveMode (f .count) (f .mode) ≡ m
       → TwinSteps (cond t (stx f) (cond u (etxAt m f) (plainAt m f b)))
       (cond t (stx (other f y)) (cond u (etxAt m (other f y)) (plainAt m (other f y) b)))
   twins-at b true u m at =
@@ -84,7 +84,7 @@ module _ (f : Framer) (y : List ℕ) (w : Twins f y) where
 
   twins-step : (b : ℕ) → TwinSteps (stepOf f b) (stepOf (other f y) b)
   unfolding stepOf
-  twins-step b = twins-at b (eqb b 2) (eqb b 3) (placeOf (f .count) (f .mode)) refl
+  twins-step b = twins-at b (eqb b 2) (eqb b 3) (effectiveMode (f .count) (f .mode)) refl
 
 twins-feed : (s : List ℕ) (f : Framer) (y : List ℕ) → Twins f y → TwinFeeds (feedOf f s) (feedOf (other f y) s)
 unfolding feedOf afterTaking

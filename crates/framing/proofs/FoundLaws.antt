@@ -16,7 +16,7 @@ use Rattle.framing.specs.declared.FeedResult.{FeedResult}
 use Rattle.framing.specs.Step.{framerOf, stx, stepOf}
 use Rattle.framing.specs.Feed.{afterTaking, feedOf}
 use Rattle.framing.specs.Framed.{allPlain, Finds, Drops}
-use Rattle.framing.proofs.StepLaws.{place-inside, place-full, place-overlong, still-overlong}
+use Rattle.framing.proofs.StepLaws.{mode-inside, mode-full, mode-overlong, still-overlong}
 use Rattle.framing.proofs.StepLaws.{step-stx, step-etx, step-ends, step-keeps, step-full}
 use Rattle.framing.proofs.FeedLaws.{feed-on, feed-stop}
 use Rattle.framing.proofs.FramedLaws.{kept-more}
@@ -40,7 +40,7 @@ module _ (rest : List ℕ) where
       → FindsRest (x ++ 3 ∷ []) n 1 (feedOf (framerOf bytes count Inside) (3 ∷ rest))
   finds-end x bytes count n size e few kept =
       rw (feed-stop (framerOf bytes count Inside) (framerOf (set bytes count 3) (count + 1) Outside)
-      (Complete (count + 1)) 3 rest (step-ends _ 3 (place-inside count (omega arith)) refl) refl)
+      (Complete (count + 1)) 3 rest (step-ends _ 3 (mode-inside count (omega arith)) refl) refl)
       (record {
         event = ap Complete (sym e);
         taken = refl;
@@ -80,7 +80,7 @@ module _ (rest : List ℕ) where
   drops-overlong : (body bytes : List ℕ) (count : ℕ) → count ≤ 66 → allPlain body ≡ true
       → Drops (length body + 1) (feedOf (framerOf bytes count Overlong) (body ++ 3 ∷ rest))
   drops-overlong [] bytes count few plain =
-      drops-end (framerOf bytes count Overlong) bytes count (step-etx _ 3 Overlong (place-overlong count few) refl)
+      drops-end (framerOf bytes count Overlong) bytes count (step-etx _ 3 Overlong (mode-overlong count few) refl)
   drops-overlong (b ∷ body) bytes count few plain =
       let p = plain-cons b body plain in
       rw (suc-eq-add-one (length body))
@@ -93,7 +93,7 @@ module _ (rest : List ℕ) where
   drops-full [] bytes count e plain =
       rw e
       (drops-end (framerOf bytes 66 Inside) bytes 66
-      (step-etx _ 3 Overlong (place-full 66 (omega arith) (omega arith)) refl))
+      (step-etx _ 3 Overlong (mode-full 66 (omega arith) (omega arith)) refl))
   drops-full (b ∷ body) bytes count e plain =
       let p = plain-cons b body plain in
       rw (e, suc-eq-add-one (length body))

@@ -13,11 +13,11 @@ use Rattle.framing.specs.declared.Mode.{Mode}
 use Rattle.framing.specs.declared.Mode.the-variants.{Outside, Inside, Overlong}
 use Rattle.framing.specs.declared.Framer.{Framer}
 use Rattle.framing.specs.declared.Event.the-variants.{Complete}
-use Rattle.framing.specs.Step.{start, placeOf, etxAt, plainAt, stx, stepOf}
+use Rattle.framing.specs.Step.{start, effectiveMode, etxAt, plainAt, stx, stepOf}
 use Rattle.framing.specs.Feed.{feedOf}
 use Rattle.framing.specs.Steps.{steps, eventAt}
 use Rattle.framing.specs.Framed.{allPlain, Reached, Framed}
-use Rattle.framing.proofs.StepLaws.{nothing-complete, dropped-complete, inside-place, inside-not-outside}
+use Rattle.framing.proofs.StepLaws.{nothing-complete, dropped-complete, inside-mode, inside-not-outside}
 use Rattle.framing.proofs.StepLaws.{step-cases}
 use Rattle.framing.proofs.StepsLaws.{by-steps}
 
@@ -54,7 +54,7 @@ module _ (p : List ℕ) (f : Framer) (b : ℕ) (w : Reached p f) where
         };
       }
 
-  reached-outside : placeOf (f .count) (f .mode) ≡ Outside → Reached (p ++ b ∷ []) f
+  reached-outside : effectiveMode (f .count) (f .mode) ≡ Outside → Reached (p ++ b ∷ []) f
   reached-outside at =
       record {
         size = w .size;
@@ -62,18 +62,18 @@ module _ (p : List ℕ) (f : Framer) (b : ℕ) (w : Reached p f) where
         inside = λ m. absurd (inside-not-outside (f .count) (w .few) (rw m at at));
       }
 
-  reached-etx : b ≡ 3 → (m : Mode) → placeOf (f .count) (f .mode) ≡ m → Reached (p ++ b ∷ []) (etxAt m f .framer)
+  reached-etx : b ≡ 3 → (m : Mode) → effectiveMode (f .count) (f .mode) ≡ m → Reached (p ++ b ∷ []) (etxAt m f .framer)
   reached-etx e Outside at = reached-outside at
   reached-etx e Inside at =
-      let room = inside-place (f .count) (f .mode) at .1 in
+      let room = inside-mode (f .count) (f .mode) at .1 in
       record { size = simp length-set (w .size); few = omega arith; inside = outside-inside }
   reached-etx e Overlong at = record { size = w .size; few = w .few; inside = outside-inside }
 
-  reached-plain : eqb b 2 || eqb b 3 ≡ false → (m : Mode) → placeOf (f .count) (f .mode) ≡ m
+  reached-plain : eqb b 2 || eqb b 3 ≡ false → (m : Mode) → effectiveMode (f .count) (f .mode) ≡ m
       → Reached (p ++ b ∷ []) (plainAt m f b .framer)
   reached-plain h Outside at = reached-outside at
   reached-plain h Inside at =
-      let at-inside = inside-place (f .count) (f .mode) at in
+      let at-inside = inside-mode (f .count) (f .mode) at in
       let o = w .inside (at-inside .0) in
       record {
         size = simp length-set (w .size);
@@ -92,11 +92,11 @@ module _ (p : List ℕ) (f : Framer) (b : ℕ) (w : Reached p f) where
   reached-step =
       step-cases (λ r. Reached (p ++ b ∷ []) (r .framer)) f b reached-stx reached-etx reached-plain
 
-  framed-etx : (n : ℕ) → b ≡ 3 → (m : Mode) → placeOf (f .count) (f .mode) ≡ m → etxAt m f .event ≡ Complete n
+  framed-etx : (n : ℕ) → b ≡ 3 → (m : Mode) → effectiveMode (f .count) (f .mode) ≡ m → etxAt m f .event ≡ Complete n
       → Framed (p ++ b ∷ []) (etxAt m f .framer) n
   framed-etx n e Outside at h = nothing-complete h
   framed-etx n e Inside at h =
-      let at-inside = inside-place (f .count) (f .mode) at in
+      let at-inside = inside-mode (f .count) (f .mode) at in
       let o = w .inside (at-inside .0) in
       let q : f .count + 1 ≡ n = cc in
       record {
@@ -115,7 +115,7 @@ module _ (p : List ℕ) (f : Framer) (b : ℕ) (w : Reached p f) where
       step-cases (λ r. r .event ≡ Complete n → Framed (p ++ b ∷ []) (r .framer) n) f b (λ e. nothing-complete)
       (framed-etx n) plain
     where
-      plain : eqb b 2 || eqb b 3 ≡ false → (m : Mode) → placeOf (f .count) (f .mode) ≡ m
+      plain : eqb b 2 || eqb b 3 ≡ false → (m : Mode) → effectiveMode (f .count) (f .mode) ≡ m
           → plainAt m f b .event ≡ Complete n → Framed (p ++ b ∷ []) (plainAt m f b .framer) n
       plain h Outside at = nothing-complete
       plain h Inside at = nothing-complete

@@ -1,7 +1,7 @@
 -- The single step of the serial feed, which the code calls `Framer`, on any state, also one that no run of the feed
 -- gives.
 use Prim.Native.Nat.{ℕ, _+_}
-use mathlib.Core.Bool.{cond}
+use mathlib.Core.Bool.{Bool, true, false, cond}
 use mathlib.Core.List.{List}
 use lib.Dec.{eqb, ltb}
 use lib.ListN.{set, replicate}
@@ -19,15 +19,18 @@ framerOf bytes count mode = record { bytes = bytes; count = count; mode = mode }
 abbrev pub start : Framer
 start = framerOf (replicate 66 0) 0 Outside
 
--- "bytes are kept up to 66" (01, The serial feed): inside a string with 66 kept, a further byte finds it overlong
-abbrev pub whenInside : Mode → Mode → Mode
+-- "bytes are kept up to 66" (01, The serial feed): inside a string a byte is kept if there is room, else it finds the
+-- string overlong
+abbrev pub whenInside : Mode → Bool → Mode
 whenInside Outside room = Outside
-whenInside Inside room = room
+whenInside Inside true = Inside
+whenInside Inside false = Overlong
 whenInside Overlong room = Overlong
 
--- "A state that says more than 66 kept counts as outside a string." (01, The serial feed)
-unfoldable pub placeOf : ℕ → Mode → Mode
-placeOf count mode = cond (ltb 66 count) Outside (whenInside mode (cond (ltb count 66) Inside Overlong))
+-- "A state that says more than 66 kept counts as outside a string." (01, The serial feed): the mode by which a byte
+-- other than STX goes
+unfoldable pub effectiveMode : ℕ → Mode → Mode
+effectiveMode count mode = cond (ltb 66 count) Outside (whenInside mode (ltb count 66))
 
 -- the state in another mode
 abbrev pub inMode : Framer → Mode → Framer
@@ -61,4 +64,4 @@ stx f = record { framer = framerOf (set (f .bytes) 0 2) 1 Inside; event = Nothin
 unfoldable pub stepOf : Framer → ℕ → StepResult
 stepOf f b =
     cond (eqb b 2) (stx f)
-    (cond (eqb b 3) (etxAt (placeOf (f .count) (f .mode)) f) (plainAt (placeOf (f .count) (f .mode)) f b))
+    (cond (eqb b 3) (etxAt (effectiveMode (f .count) (f .mode)) f) (plainAt (effectiveMode (f .count) (f .mode)) f b))

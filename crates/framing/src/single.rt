@@ -2,7 +2,7 @@
 use crate::Event;
 use crate::Mode;
 ghost use mathlib.Core.Path.{_≡_};
-ghost use Rattle.framing.specs.Step.{framerOf, placeOf, stepOf};
+ghost use Rattle.framing.specs.Step.{framerOf, effectiveMode, stepOf};
 ghost use Rattle.framing.specs.Feed.{isNothing};
 ghost use Rattle.framing.specs.Run.{moved};
 
@@ -25,8 +25,8 @@ pub(crate) fn is_nothing(event: Event) -> bool
 }
 
 // The mode by which a byte other than STX goes.
-fn place(count: usize, mode: Mode) -> Mode
-    ensures { λ r. ⌜ r ≡ placeOf count mode ⌝ }
+fn effective_mode(count: usize, mode: Mode) -> Mode
+    ensures { λ r. ⌜ r ≡ effectiveMode count mode ⌝ }
 {
     if 66 < count {
         return Mode::Outside;
@@ -56,8 +56,8 @@ pub(crate) fn advance(bytes: &mut [u8; 66], count: usize, mode: Mode, b: u8) -> 
             event: Event::Nothing,
         };
     }
-    let at = place(count, mode);
-    match at {
+    let effective = effective_mode(count, mode);
+    match effective {
         Mode::Outside => Moved {
             count,
             mode,

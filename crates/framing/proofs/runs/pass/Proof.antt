@@ -1,14 +1,14 @@
 -- A run for each mode.
 use borrow.Author.Needs.{needs}
-use Rattle.framing.proofs.StepLaws.{place-more, place-outside, still-outside, still-overlong}
+use Rattle.framing.proofs.StepLaws.{mode-more, mode-outside, still-outside, still-overlong}
 use Rattle.framing.proofs.runs.pass.Statement.{statement}
 use Rattle.framing.proofs.runs.pass.Tie as tie
 
 returns : tie.Need-returns
-returns c = c .skip .ensures _ (still-outside _ (place-more _ _ (c .before .if1 .taken)))
+returns c = c .skip .ensures _ (still-outside _ (mode-more _ _ (c .before .if1 .taken)))
 
 returns-2 : tie.Need-returns-2
-returns-2 c = c .skip2 .ensures _ (still-outside _ (simp (c .before .enum-told .given .1, place-outside)))
+returns-2 c = c .skip2 .ensures _ (still-outside _ (simp (c .before .enum-told .given .1, mode-outside)))
 
 returns-3 : tie.Need-returns-3
 returns-3 c =

@@ -18,6 +18,7 @@ WARN = -Wall -Wextra -Wpedantic -Wconversion -Wsign-conversion -Wshadow -Werror
 PLAIN = $(CC) -std=c99 -O2 $(WARN) -Iinclude -Itests/c
 CHECKED = $(CC) -std=c99 -O1 -g $(WARN) -fsanitize=address,undefined -fno-sanitize-recover=all -Iinclude -Itests/c
 COMPARE = $(addprefix tests/c/,compare.c examples.c inputs.c lend.c reference.c)
+BENCH = $(addprefix tests/c/,bench.c bench_plain.c inputs.c reference.c)
 HEADERS = include/radio_clock.h $(wildcard tests/c/*.h)
 
 .PHONY: test list outside c-test c-header fuzz c-selftest bench collector c-collector samples install c-install library
@@ -60,9 +61,9 @@ $(C)/selftest: $(COMPARE) tests/c/faulty.c $(HEADERS)
 c-selftest: $(C)/selftest
 	tests/c/selftest.sh $(C)/selftest
 
-$(C)/bench: tests/c/bench.c tests/c/inputs.c tests/c/reference.c $(HEADERS) $(LIBRARY)
+$(C)/bench: $(BENCH) $(HEADERS) $(LIBRARY)
 	@mkdir -p $(C)
-	@$(PLAIN) tests/c/bench.c tests/c/inputs.c tests/c/reference.c $(LIBRARY) -o $@
+	@$(PLAIN) $(BENCH) $(LIBRARY) -o $@
 
 bench: $(C)/bench $(LIST_TIMES)
 	@CC="$(CC)" tests/c/bench.sh $(C)/bench $(LIST_TIMES)

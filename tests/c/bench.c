@@ -1,4 +1,4 @@
-/* bench: times the library and the reference in one process on the same valid inputs. Prints a line for each row: its
+/* bench: times the library and bench_plain.c in one process on the same valid inputs. Prints a line for each row: its
  * name, and nanoseconds of both, each the best of many rounds in which they take turns. 'bench -c ROW SIDE ROUNDS' runs
  * a row by one side alone, for counting instructions; it prints the function called and for how many units that
  * counts. 'bench -g BYTES' writes so many bytes of valid Meinberg strings. */
@@ -9,6 +9,7 @@
 #include <string.h>
 #include <time.h>
 
+#include "bench_plain.h"
 #include "inputs.h"
 #include "radio_clock.h"
 #include "reference.h"
@@ -30,8 +31,8 @@ struct side {
 static const struct side sides[2] = {
     { "library", radio_clock_read, radio_clock_write, radio_clock_read_minute, radio_clock_write_minute,
       radio_clock_unix_time, radio_clock_fill_outcomes, radio_clock_correct_mark, radio_clock_feed },
-    { "reference", reference_read, reference_write, reference_read_minute, reference_write_minute,
-      reference_unix_time, reference_fill_outcomes, reference_correct_mark, reference_feed },
+    { "plain", plain_read, plain_write, plain_read_minute, plain_write_minute, plain_unix_time, plain_fill_outcomes,
+      plain_correct_mark, plain_feed },
 };
 
 static uint8_t strings[4][INPUTS][66], minutes[INPUTS][60], line[LINE], tape[DAY];
@@ -215,11 +216,11 @@ static int run_alone(const char *name, const char *side_name, int rounds)
     for (int r = 0; r < ROWS; r++) {
         if (strcmp(name, rows[r].name) != 0)
             continue;
-        const struct side *side = &sides[strcmp(side_name, "reference") == 0];
+        const struct side *side = &sides[strcmp(side_name, "plain") == 0];
         double units = 0;
         for (int i = 0; i < rounds; i++)
             units += rows[r].run(side, rows[r].argument);
-        printf("%s_%s %.0f\n", side == &sides[1] ? "reference" : "radio_clock", rows[r].function, units);
+        printf("%s_%s %.0f\n", side == &sides[1] ? "plain" : "radio_clock", rows[r].function, units);
         return refused != 0;
     }
     fprintf(stderr, "no such row: %s\n", name);

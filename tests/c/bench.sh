@@ -45,23 +45,23 @@ cat << END
 Measured on $processor; plain C by $("${CC:-cc}" --version | head -1) at -O2.
 \`make bench\` prints this page.
 
-The library and a plain C implementation of the same rules ([reference.c](../tests/c/reference.c)) run in one process on
-the same varied valid inputs and take turns; a time is the best of 400 rounds. Instructions are those inside the
-function, by callgrind, and come out the same each time. A ratio is that of the library to plain C. Plain C is written
-for speed: it decides on signs and flags without branches, takes eight marks of a minute at once, and keeps runs of the
-feed at once.
+The library and a plain C implementation of the same rules ([bench_plain.c](../tests/c/bench_plain.c)) run in one
+process on the same varied valid inputs and take turns; a time is the best of 400 rounds. Instructions are those inside
+the function, by callgrind, and come out the same each time. A ratio is that of the library to plain C. Plain C is
+written for speed: it decides on signs and flags without branches, takes eight marks of a minute at once, and keeps runs
+of the feed at once.
 
 | call | library, ns | plain C, ns | ratio | library, instructions | plain C, instructions | ratio |
 |---|---:|---:|---:|---:|---:|---:|
 END
-"$bench" | while IFS=$'\t' read -r name library reference; do
+"$bench" | while IFS=$'\t' read -r name library plain; do
     counts=" | | "
     if command -v valgrind > /dev/null; then
         ours=$(instructions "$name" library)
-        theirs=$(instructions "$name" reference)
+        theirs=$(instructions "$name" plain)
         counts=$(pair "$ours" "$theirs")
     fi
-    echo "| $name | $(pair "$library" "$reference") | $counts |"
+    echo "| $name | $(pair "$library" "$plain") | $counts |"
 done
 if [ -x "$list_times" ]; then
     work=$(mktemp -d)

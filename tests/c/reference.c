@@ -1,282 +1,391 @@
-/* Document 01 in plain C: a reader looks at each place once, in the order of the refusal numbers, and copies nothing.
- * Places and numbers are written out as the document has them. */
+/* Document 01 in plain C, to be read beside the paper: each rule stands by the sentence that it follows, in quotation
+ * marks, and nothing is done for speed. */
 #include "reference.h"
 
 #include <stdbool.h>
 #include <string.h>
 
-enum { STX = 2, ETX = 3, CR = 13 };
 enum { STANDARD, PZF, GPS, ELV };
-enum { GAP = 2, LONGEST_TAPE = 100000 };
-enum { KEPT = 66, COUNT = 66, MODE = 67, STATE = 68, OUTSIDE = 0, INSIDE = 1, OVERLONG = 2, DROPPED = 255 };
 
-/* A time being read: all but the flags, as numbers that the digits gave. */
-struct time {
-    unsigned year, month, day, weekday, hour, minute, second;
-    int offset;
+/* "Year, month, day, weekday (1 Monday to 7 Sunday), hour, minute, second, offset in minutes (local minus UTC, signed),
+ * and six flags: unsynchronised, unverified, summer time, change coming, leap second coming, alternate antenna. A GPS
+ * string adds position and height; a minute adds its marks 1..14 and whether it had 60 marks." A reading is an array of
+ * numbers; these are their places. A flag is 1 or 0. */
+enum {
+    YEAR,
+    MONTH,
+    DAY,
+    WEEKDAY,
+    HOUR,
+    MINUTE,
+    SECOND,
+    OFFSET,
+    UNSYNCHRONISED,
+    UNVERIFIED,
+    SUMMER,
+    CHANGE,
+    LEAP,
+    ANTENNA,
+    TIME_FIELDS,
+
+    LATITUDE = TIME_FIELDS,
+    LONGITUDE,
+    HEIGHT,
+    GPS_FIELDS,
+
+    MARKS_1_TO_14 = TIME_FIELDS,
+    SIXTY_MARKS,
+    MINUTE_FIELDS
 };
 
-/* Dates and times of day. */
+/* The reading. */
 
-static const uint8_t month_days[13] = { 0, 31, 28, 31, 30, 31, 30, 31, 31, 30, 31, 30, 31 };
-static const uint16_t days_before[13] = { 0, 0, 31, 59, 90, 120, 151, 181, 212, 243, 273, 304, 334 };
-
-static inline unsigned full_year(unsigned two_digits)
+/* "Two digits of year mean 1970 to 2069: 70..99 are 19xx, 00..69 are 20xx." */
+static int32_t full_year(int32_t digits)
 {
-    return two_digits < 70 ? 2000 + two_digits : 1900 + two_digits;
+    if (digits >= 70)
+        return 1900 + digits;
+    return 2000 + digits;
 }
 
-/* 1970 to 2069 hold 2000, a leap year, and no other century. */
-static inline bool is_leap(unsigned year) { return year % 4 == 0; }
-
-static inline bool is_date(unsigned year, unsigned month, unsigned day)
+/* "Dates are Gregorian." */
+static bool is_leap_year(int32_t year)
 {
-    if (month - 1 >= 12)
+    if (year % 400 == 0)
+        return true;
+    if (year % 100 == 0)
         return false;
-    return day - 1 < month_days[month] + (unsigned)(month == 2 && is_leap(year));
+    return year % 4 == 0;
 }
 
-/* Days from 1 January 1970. */
-static inline unsigned day_number(unsigned year, unsigned month, unsigned day)
+static int32_t days_in_month(int32_t year, int32_t month)
 {
-    unsigned years = year - 1970;
-    return 365 * years + (years + 1) / 4 + days_before[month] + (month > 2 && is_leap(year)) + day - 1;
+    if (month == 2)
+        return is_leap_year(year) ? 29 : 28;
+    if (month == 4 || month == 6 || month == 9 || month == 11)
+        return 30;
+    return 31;
 }
 
-/* 1 January 1970 was a Thursday. */
-static inline unsigned weekday_of(unsigned days) { return (days + 3) % 7 + 1; }
-
-/* With an offset of 840 at most, the modulo is 1,439 at these two only. */
-static inline bool is_time_of_day(unsigned hour, unsigned minute, unsigned second, int offset)
+static bool is_date(int32_t year, int32_t month, int32_t day)
 {
-    if (hour >= 24 || minute >= 60 || second >= 60) {
-        int utc = (int)(60 * hour + minute) - offset;
-        return hour < 24 && minute < 60 && second == 60 && (utc == 1439 || utc == -1);
+    return 1 <= month && month <= 12 && 1 <= day && day <= days_in_month(year, month);
+}
+
+/* "days since 1 January 1970": those of the years before, of the months before, and of the month. */
+static int32_t days_since_1970(int32_t year, int32_t month, int32_t day)
+{
+    int32_t days = 0;
+    for (int32_t before = 1970; before < year; before++)
+        days += is_leap_year(before) ? 366 : 365;
+    for (int32_t before = 1; before < month; before++)
+        days += days_in_month(year, before);
+    return days + day - 1;
+}
+
+/* 1 January 1970 was a Thursday, weekday 4. */
+static int32_t weekday_of(int32_t year, int32_t month, int32_t day)
+{
+    return (3 + days_since_1970(year, month, day)) % 7 + 1;
+}
+
+/* "Second 60 is allowed only where (60 × hour + minute − offset) modulo 1,440 is 1,439." */
+static bool is_time_of_day(int32_t hour, int32_t minute, int32_t second, int32_t offset)
+{
+    if (hour < 0 || hour > 23 || minute < 0 || minute > 59 || second < 0 || second > 60)
+        return false;
+    if (second < 60)
+        return true;
+    int32_t modulo = (60 * hour + minute - offset) % 1440;
+    if (modulo < 0)
+        modulo += 1440;
+    return modulo == 1439;
+}
+
+/* "year 1970 to 2069, a date, a time of day, weekday 1..7, offset at most 840 minutes either way", and flags that are
+ * flags. */
+static bool is_valid(const int32_t *r)
+{
+    if (r[YEAR] < 1970 || r[YEAR] > 2069 || !is_date(r[YEAR], r[MONTH], r[DAY]))
+        return false;
+    if (r[OFFSET] < -840 || r[OFFSET] > 840 || !is_time_of_day(r[HOUR], r[MINUTE], r[SECOND], r[OFFSET]))
+        return false;
+    if (r[WEEKDAY] < 1 || r[WEEKDAY] > 7)
+        return false;
+    for (int flag = UNSYNCHRONISED; flag <= ANTENNA; flag++)
+        if (r[flag] != 0 && r[flag] != 1)
+            return false;
+    return true;
+}
+
+/* "The instant is 86,400 × days since 1 January 1970 + 3,600 × hour + 60 × minute + second − 60 × offset." "Refused
+ * with 23 where the fields are no valid reading" */
+uint8_t reference_unix_time(const int32_t *fields, size_t count, int64_t *time)
+{
+    const int32_t *r = fields;
+    if (count < TIME_FIELDS || !is_valid(r))
+        return 23;
+    int64_t days = days_since_1970(r[YEAR], r[MONTH], r[DAY]);
+    *time = 86400 * days + 3600 * r[HOUR] + 60 * r[MINUTE] + r[SECOND] - 60 * r[OFFSET];
+    return 0;
+}
+
+/* Reading strings. "Order for text: 1, 2, 3, 4, 8, 9, 5, 6, 7." */
+
+/* A layout has a byte for each place of a string: `0` in a digit place, `?` where a flag, a sign or a position stands,
+ * else the fixed byte itself. "STX is 2, ETX is 3." */
+
+/* "`STX D:dd.mm.yy;T:w;U:hh.mm.ss;uvxy ETX` (the blanks beside STX and ETX are only for print)" */
+static const char standard_layout[] = "\002D:00.00.00;T:0;U:00.00.00;????\003";
+
+/* "`STX dd.mm.yy; w; hh:mm:ss; tuvxyza ETX`" */
+static const char pzf_layout[] = "\00200.00.00; 0; 00:00:00; ???????\003";
+
+/* "As PZF up to place 22; blank at 23; sign at 24; offset digits at 25, 26, 28, 29 with `:` at 27; `;` 30; blank 31;
+ * flags uvxyzab at 32..38; `;` 39; blank 40; latitude 41..48; blank 49; longitude 50..58; blank 59; height 60..63; `m`
+ * 64; ETX 65." Points are "at 43 and 53". */
+static const char gps_layout[] = "\00200.00.00; 0; 00:00:00; ?00:00; ???????; ??.????? ???.????? ????m\003";
+
+/* "`YY-MM-DD-HH-MM-SS-FF` and CR" */
+static const char elv_layout[] = "00-00-00-00-00-00-00\r";
+
+static bool is_digit(uint8_t byte) { return '0' <= byte && byte <= '9'; }
+
+static uint8_t check_layout(const char *layout, const uint8_t *s, size_t n)
+{
+    /* 1: "string length wrong for its kind" */
+    if (n != strlen(layout))
+        return 1;
+    /* 2: "a fixed byte differs" */
+    for (size_t i = 0; i < n; i++)
+        if (layout[i] != '0' && layout[i] != '?' && s[i] != (uint8_t)layout[i])
+            return 2;
+    /* 3: "no digit in a digit place" */
+    for (size_t i = 0; i < n; i++)
+        if (layout[i] == '0' && !is_digit(s[i]))
+            return 3;
+    return 0;
+}
+
+/* The number that so many digits spell. */
+static int32_t number(const uint8_t *s, size_t digits)
+{
+    int32_t value = 0;
+    for (size_t i = 0; i < digits; i++)
+        value = 10 * value + (s[i] - '0');
+    return value;
+}
+
+static bool is_one_of(uint8_t byte, const char *letters)
+{
+    for (size_t i = 0; letters[i] != '\0'; i++)
+        if (byte == (uint8_t)letters[i])
+            return true;
+    return false;
+}
+
+/* Day, month and year, the weekday, and hour, minute and second of a Meinberg string, from these places on. */
+static void read_clock(const uint8_t *s, size_t date, size_t weekday, size_t time, int32_t *r)
+{
+    r[DAY] = number(s + date, 2);
+    r[MONTH] = number(s + date + 3, 2);
+    r[YEAR] = full_year(number(s + date + 6, 2));
+    r[WEEKDAY] = number(s + weekday, 1);
+    r[HOUR] = number(s + time, 2);
+    r[MINUTE] = number(s + time + 3, 2);
+    r[SECOND] = number(s + time + 6, 2);
+}
+
+static uint8_t check_clock(const int32_t *r, bool mismatch)
+{
+    /* 5: "no such date" */
+    if (!is_date(r[YEAR], r[MONTH], r[DAY]))
+        return 5;
+    /* 6: "no such time of day, second 60 rule included"; for GPS "mismatch 6" */
+    if (!is_time_of_day(r[HOUR], r[MINUTE], r[SECOND], r[OFFSET]) || mismatch)
+        return 6;
+    /* 7: "weekday outside 1..7" */
+    if (r[WEEKDAY] < 1 || r[WEEKDAY] > 7)
+        return 7;
+    return 0;
+}
+
+static uint8_t read_standard(const uint8_t *s, size_t n, int32_t *r)
+{
+    uint8_t refusal = check_layout(standard_layout, s, n);
+    if (refusal != 0)
+        return refusal;
+
+    /* "Flags at 27..30. u is `#` or blank (unsynchronised); v `*` or blank (unverified); x `U` (offset 0), `S` (offset
+     * 120, summer time) or blank (offset 60); y `!` (change coming), `A` (leap second coming) or blank."
+     * 4: "a flag place holds another character" */
+    uint8_t u = s[27], v = s[28], x = s[29], y = s[30];
+    if (!is_one_of(u, "# ") || !is_one_of(v, "* ") || !is_one_of(x, "US ") || !is_one_of(y, "!A "))
+        return 4;
+    r[UNSYNCHRONISED] = u == '#';
+    r[UNVERIFIED] = v == '*';
+    r[SUMMER] = x == 'S';
+    r[CHANGE] = y == '!';
+    r[LEAP] = y == 'A';
+    r[ANTENNA] = 0;
+    if (x == 'U')
+        r[OFFSET] = 0;
+    else if (x == 'S')
+        r[OFFSET] = 120;
+    else
+        r[OFFSET] = 60;
+
+    read_clock(s, 3, 14, 18, r);
+    return check_clock(r, false);
+}
+
+/* "u `#`, v `*`, x `S`, y `!`, z `A`, a `R`, or blank": the letters of the reading's six flags, in its order. */
+static const char flag_letters[] = "#*S!AR";
+
+static bool read_flags(const uint8_t *s, int32_t *r)
+{
+    for (int i = 0; i < 6; i++) {
+        if (s[i] != flag_letters[i] && s[i] != ' ')
+            return false;
+        r[UNSYNCHRONISED + i] = s[i] == flag_letters[i];
     }
     return true;
 }
 
-/* Reading strings. */
-
-static inline bool is_digit(uint8_t byte) { return (uint8_t)(byte - '0') <= 9; }
-
-static inline bool are_digits(const uint8_t *s) { return is_digit(s[0]) && is_digit(s[1]); }
-
-static inline unsigned pair(const uint8_t *s) { return s[0] * 10u + s[1] - 11 * '0'; }
-
-/* Which of the two it is cannot be foreseen, so the choice costs no branch; the same holds of signs. */
-static inline bool is_flag(uint8_t byte, char letter) { return (byte == ' ') | (byte == letter); }
-
-/* What the digits of all four kinds still can have wrong: 5, 6, 7, then 20. */
-static inline uint8_t time_error(const struct time *t, bool wrong_leap_letter, size_t room, size_t needed)
+static uint8_t read_pzf(const uint8_t *s, size_t n, int32_t *r)
 {
-    if (!is_date(t->year, t->month, t->day))
-        return 5;
-    if (!is_time_of_day(t->hour, t->minute, t->second, t->offset) || wrong_leap_letter)
-        return 6;
-    if (t->weekday - 1 >= 7)
-        return 7;
-    return room < needed ? 20 : 0;
-}
+    uint8_t refusal = check_layout(pzf_layout, s, n);
+    if (refusal != 0)
+        return refusal;
 
-static inline void put_time(const struct time *t, int32_t *fields)
-{
-    fields[0] = (int32_t)t->year;
-    fields[1] = (int32_t)t->month;
-    fields[2] = (int32_t)t->day;
-    fields[3] = (int32_t)t->weekday;
-    fields[4] = (int32_t)t->hour;
-    fields[5] = (int32_t)t->minute;
-    fields[6] = (int32_t)t->second;
-    fields[7] = t->offset;
-}
-
-static uint8_t read_standard(const uint8_t *s, size_t n, int32_t *fields, size_t room)
-{
-    if (n != 32)
-        return 1;
-    if (s[0] != STX || s[1] != 'D' || s[2] != ':' || s[5] != '.' || s[8] != '.' || s[11] != ';' || s[12] != 'T' ||
-        s[13] != ':' || s[15] != ';' || s[16] != 'U' || s[17] != ':' || s[20] != '.' || s[23] != '.' || s[26] != ';' ||
-        s[31] != ETX)
-        return 2;
-    if (!are_digits(s + 3) || !are_digits(s + 6) || !are_digits(s + 9) || !is_digit(s[14]) || !are_digits(s + 18) ||
-        !are_digits(s + 21) || !are_digits(s + 24))
-        return 3;
-    uint8_t zone = s[29], coming = s[30];
-    if (!is_flag(s[27], '#') || !is_flag(s[28], '*') || (zone != 'U' && zone != 'S' && zone != ' ') ||
-        (coming != '!' && coming != 'A' && coming != ' '))
+    /* "Flags at 24..30": t `U` or blank, then the six. 4: "a flag place holds another character" */
+    uint8_t t = s[24];
+    if (!is_one_of(t, "U ") || !read_flags(s + 25, r))
         return 4;
-    struct time t = { full_year(pair(s + 9)), pair(s + 6),  pair(s + 3),  s[14] - '0',
-                      pair(s + 18),           pair(s + 21), pair(s + 24), zone == 'U' ? 0 : zone == 'S' ? 120 : 60 };
-    uint8_t error = time_error(&t, false, room, 14);
-    if (error != 0)
-        return error;
-    put_time(&t, fields);
-    fields[8] = s[27] == '#';
-    fields[9] = s[28] == '*';
-    fields[10] = zone == 'S';
-    fields[11] = coming == '!';
-    fields[12] = coming == 'A';
-    fields[13] = 0;
-    return 0;
+
+    /* "t `U` gives offset 0 whatever x is; otherwise x `S` gives 120 and blank 60. x is the summer flag in each
+     * case." */
+    if (t == 'U')
+        r[OFFSET] = 0;
+    else if (r[SUMMER] == 1)
+        r[OFFSET] = 120;
+    else
+        r[OFFSET] = 60;
+
+    read_clock(s, 1, 11, 14, r);
+    return check_clock(r, false);
 }
 
-/* The places 0 to 22, which PZF and GPS share. */
-static inline bool erlangen_fixed(const uint8_t *s)
+/* "whole parts, height among them, are right-aligned with blanks for leading zeros, the last whole digit always
+ * present, a needless zero refused" */
+static bool read_whole_part(const uint8_t *s, size_t places, int32_t *value)
 {
-    return s[0] == STX && s[3] == '.' && s[6] == '.' && s[9] == ';' && s[10] == ' ' && s[12] == ';' && s[13] == ' ' &&
-           s[16] == ':' && s[19] == ':' && s[22] == ';';
+    size_t blanks = 0;
+    while (blanks < places && s[blanks] == ' ')
+        blanks++;
+    size_t digits = places - blanks;
+    if (digits == 0)
+        return false;
+    for (size_t i = blanks; i < places; i++)
+        if (!is_digit(s[i]))
+            return false;
+    if (s[blanks] == '0' && digits > 1)
+        return false;
+    *value = number(s + blanks, digits);
+    return true;
 }
 
-static inline bool erlangen_digits(const uint8_t *s)
+/* "four digits after each point", and a letter. "Kept as signed ten-thousandths of a degree, S and W below zero, at
+ * most 900,000 and 1,800,000; a zero with S or W is refused." */
+static bool read_degrees(const uint8_t *s, size_t places, uint8_t above, uint8_t below, int32_t most, int32_t *degrees)
 {
-    return are_digits(s + 1) && are_digits(s + 4) && are_digits(s + 7) && is_digit(s[11]) && are_digits(s + 14) &&
-           are_digits(s + 17) && are_digits(s + 20);
+    int32_t whole = 0;
+    const uint8_t *fraction = s + places + 1;
+    uint8_t letter = s[places + 5];
+    if (!read_whole_part(s, places, &whole))
+        return false;
+    for (int i = 0; i < 4; i++)
+        if (!is_digit(fraction[i]))
+            return false;
+    if (letter != above && letter != below)
+        return false;
+    int32_t size = 10000 * whole + number(fraction, 4);
+    if (size > most || (size == 0 && letter == below))
+        return false;
+    *degrees = letter == below ? -size : size;
+    return true;
 }
 
-static inline struct time erlangen_time(const uint8_t *s, int offset)
+static uint8_t read_gps(const uint8_t *s, size_t n, int32_t *r)
 {
-    struct time t = { full_year(pair(s + 7)), pair(s + 4),  pair(s + 1),  s[11] - '0',
-                      pair(s + 14),           pair(s + 17), pair(s + 20), offset };
-    return t;
-}
+    uint8_t refusal = check_layout(gps_layout, s, n);
+    if (refusal != 0)
+        return refusal;
 
-/* The flags uvxyza. */
-static inline bool erlangen_flags(const uint8_t *f)
-{
-    return is_flag(f[0], '#') && is_flag(f[1], '*') && is_flag(f[2], 'S') && is_flag(f[3], '!') &&
-           is_flag(f[4], 'A') && is_flag(f[5], 'R');
-}
-
-static inline void put_erlangen_flags(const uint8_t *f, int32_t *fields)
-{
-    fields[8] = f[0] != ' ';
-    fields[9] = f[1] != ' ';
-    fields[10] = f[2] != ' ';
-    fields[11] = f[3] != ' ';
-    fields[12] = f[4] != ' ';
-    fields[13] = f[5] != ' ';
-}
-
-static uint8_t read_pzf(const uint8_t *s, size_t n, int32_t *fields, size_t room)
-{
-    if (n != 32)
-        return 1;
-    if (!erlangen_fixed(s) || s[23] != ' ' || s[31] != ETX)
-        return 2;
-    if (!erlangen_digits(s))
-        return 3;
-    if (!is_flag(s[24], 'U') || !erlangen_flags(s + 25))
+    /* "flags uvxyzab at 32..38". "b must be `L` exactly if the second is 60 (wrong letter 4, mismatch 6)." */
+    uint8_t b = s[38];
+    if (!read_flags(s + 32, r) || !is_one_of(b, "L "))
         return 4;
-    struct time t = erlangen_time(s, s[24] == 'U' ? 0 : s[27] == 'S' ? 120 : 60);
-    uint8_t error = time_error(&t, false, room, 14);
-    if (error != 0)
-        return error;
-    put_time(&t, fields);
-    put_erlangen_flags(s + 25, fields);
-    return 0;
-}
 
-/* A number with one more digit. */
-static inline unsigned with_digit(unsigned value, uint8_t byte, unsigned *wrong)
-{
-    unsigned digit = byte - (unsigned)'0';
-    *wrong |= digit > 9;
-    return 10 * value + digit;
-}
-
-/* The same for a place that is blank exactly if the number up to it is 0. */
-static inline unsigned with_leading(unsigned value, uint8_t byte, unsigned *wrong)
-{
-    unsigned blank = byte == ' ', digit = blank ? 0 : byte - (unsigned)'0';
-    value = 10 * value + digit;
-    *wrong |= (digit > 9) | (blank != (value == 0));
-    return value;
-}
-
-/* The last whole digit, a point, four digits and a letter. */
-static inline int32_t read_angle(unsigned value, const uint8_t *s, unsigned most, char above, char below,
-                                 unsigned *wrong)
-{
-    value = with_digit(value, s[0], wrong);
-    value = with_digit(value, s[2], wrong);
-    value = with_digit(value, s[3], wrong);
-    value = with_digit(value, s[4], wrong);
-    value = with_digit(value, s[5], wrong);
-    unsigned minus = s[6] == below;
-    *wrong |= (value > most) | ((s[6] != above) & !minus) | ((value == 0) & minus);
-    return minus ? -(int32_t)value : (int32_t)value;
-}
-
-static uint8_t read_gps(const uint8_t *s, size_t n, int32_t *fields, size_t room)
-{
-    if (n != 66)
-        return 1;
-    if (!erlangen_fixed(s) || s[23] != ' ' || s[27] != ':' || s[30] != ';' || s[31] != ' ' || s[39] != ';' ||
-        s[40] != ' ' || s[43] != '.' || s[49] != ' ' || s[53] != '.' || s[59] != ' ' || s[64] != 'm' || s[65] != ETX)
-        return 2;
-    if (!erlangen_digits(s) || !are_digits(s + 25) || !are_digits(s + 28))
-        return 3;
-    if (!erlangen_flags(s + 32) || !is_flag(s[38], 'L'))
-        return 4;
-    unsigned minutes = pair(s + 28), size = 60 * pair(s + 25) + minutes;
-    bool minus = s[24] == '-';
-    if (((s[24] != '+') & !minus) || minutes > 59 || size > 840 || (minus && size == 0))
+    /* 8: "offset sign or size". "Offset at most 14:00 either way, its minutes at most 59; `-00:00` is refused with
+     * 8." */
+    uint8_t sign = s[24];
+    int32_t minutes = number(s + 28, 2), size = 60 * number(s + 25, 2) + minutes;
+    if (!is_one_of(sign, "+-") || size > 14 * 60 || minutes > 59 || (sign == '-' && size == 0))
         return 8;
-    unsigned wrong = 0, east = with_leading(with_leading(0, s[50], &wrong), s[51], &wrong), height = 0;
-    int32_t latitude = read_angle(with_leading(0, s[41], &wrong), s + 42, 900000, 'N', 'S', &wrong);
-    int32_t longitude = read_angle(east, s + 52, 1800000, 'E', 'W', &wrong);
-    for (int i = 60; i < 63; i++)
-        height = with_leading(height, s[i], &wrong);
-    height = with_digit(height, s[63], &wrong);
-    if (wrong != 0)
+    r[OFFSET] = sign == '-' ? -size : size;
+
+    /* "All faults in 41..63 but the fixed bytes at 43, 49, 53 and 59 are 9." "N or S at 48, E or W at 58" */
+    if (!read_degrees(s + 41, 2, 'N', 'S', 900000, &r[LATITUDE]))
         return 9;
-    struct time t = erlangen_time(s, minus ? -(int)size : (int)size);
-    uint8_t error = time_error(&t, (s[38] == 'L') != (t.second == 60), room, 17);
-    if (error != 0)
-        return error;
-    put_time(&t, fields);
-    put_erlangen_flags(s + 32, fields);
-    fields[14] = latitude;
-    fields[15] = longitude;
-    fields[16] = (int32_t)height;
-    return 0;
+    if (!read_degrees(s + 50, 3, 'E', 'W', 1800000, &r[LONGITUDE]))
+        return 9;
+    if (!read_whole_part(s + 60, 4, &r[HEIGHT]))
+        return 9;
+
+    read_clock(s, 1, 11, 14, r);
+    return check_clock(r, (b == 'L') != (r[SECOND] == 60));
 }
 
-static uint8_t read_elv(const uint8_t *s, size_t n, int32_t *fields, size_t room)
+static uint8_t read_elv(const uint8_t *s, size_t n, int32_t *r)
 {
-    if (n != 21)
-        return 1;
-    if (s[2] != '-' || s[5] != '-' || s[8] != '-' || s[11] != '-' || s[14] != '-' || s[17] != '-' || s[20] != CR)
-        return 2;
-    if (!are_digits(s) || !are_digits(s + 3) || !are_digits(s + 6) || !are_digits(s + 9) || !are_digits(s + 12) ||
-        !are_digits(s + 15) || !are_digits(s + 18))
-        return 3;
-    unsigned flags = pair(s + 18);
-    if (flags > 7)
+    uint8_t refusal = check_layout(elv_layout, s, n);
+    if (refusal != 0)
+        return refusal;
+
+    /* "FF is 00..07, else 4: 1 summer (offset 120, else 60), 2 change coming, 4 unsynchronised." */
+    int32_t ff = number(s + 18, 2);
+    if (ff > 7)
         return 4;
-    struct time t = { full_year(pair(s)), pair(s + 3),  pair(s + 6),  1,
-                      pair(s + 9),        pair(s + 12), pair(s + 15), (flags & 1) != 0 ? 120 : 60 };
-    uint8_t error = time_error(&t, false, room, 14);
-    if (error != 0)
-        return error;
-    t.weekday = weekday_of(day_number(t.year, t.month, t.day));
-    put_time(&t, fields);
-    fields[8] = (flags & 4) != 0;
-    fields[9] = 0;
-    fields[10] = (flags & 1) != 0;
-    fields[11] = (flags & 2) != 0;
-    fields[12] = 0;
-    fields[13] = 0;
-    return 0;
+    r[SUMMER] = ff % 2;
+    r[CHANGE] = ff / 2 % 2;
+    r[UNSYNCHRONISED] = ff / 4;
+    r[UNVERIFIED] = 0;
+    r[LEAP] = 0;
+    r[ANTENNA] = 0;
+    r[OFFSET] = r[SUMMER] == 1 ? 120 : 60;
+
+    r[YEAR] = full_year(number(s, 2));
+    r[MONTH] = number(s + 3, 2);
+    r[DAY] = number(s + 6, 2);
+    r[HOUR] = number(s + 9, 2);
+    r[MINUTE] = number(s + 12, 2);
+    r[SECOND] = number(s + 15, 2);
+    /* "No weekday is sent; it is worked out from the date." */
+    r[WEEKDAY] = weekday_of(r[YEAR], r[MONTH], r[DAY]);
+    return check_clock(r, false);
 }
 
+/* "66 long is GPS; 32 long is standard if place 1 holds `D`, else PZF; 21 long is ELV; any other length is refused with
+ * 1." */
 uint8_t reference_kind(const uint8_t *s, size_t n, uint8_t *kind)
 {
     if (n == 66)
         *kind = GPS;
+    else if (n == 32 && s[1] == 'D')
+        *kind = STANDARD;
     else if (n == 32)
-        *kind = s[1] == 'D' ? STANDARD : PZF;
+        *kind = PZF;
     else if (n == 21)
         *kind = ELV;
     else
@@ -284,484 +393,472 @@ uint8_t reference_kind(const uint8_t *s, size_t n, uint8_t *kind)
     return 0;
 }
 
-uint8_t reference_read(uint8_t kind, const uint8_t *s, size_t n, int32_t *fields, size_t room)
+/* "The caller names the kind; an unknown kind number from C gives 1." */
+static uint8_t read_kind(uint8_t kind, const uint8_t *s, size_t n, int32_t *r)
 {
     switch (kind) {
     case STANDARD:
-        return read_standard(s, n, fields, room);
+        return read_standard(s, n, r);
     case PZF:
-        return read_pzf(s, n, fields, room);
+        return read_pzf(s, n, r);
     case GPS:
-        return read_gps(s, n, fields, room);
+        return read_gps(s, n, r);
     case ELV:
-        return read_elv(s, n, fields, room);
+        return read_elv(s, n, r);
     default:
         return 1;
     }
 }
 
-/* Writing strings. */
+/* How many numbers the reading of a string has. */
+static size_t fields_of(uint8_t kind) { return kind == GPS ? GPS_FIELDS : TIME_FIELDS; }
 
-static inline bool within(int32_t value, int32_t least, int32_t most) { return least <= value && value <= most; }
-
-/* A valid reading: year, date, time of day, weekday, offset, and flags of 0 or 1. */
-static inline bool is_reading(const int32_t *f)
+/* Fills the first places of lent memory. 20: "a buffer too short to write to" */
+static uint8_t fill_fields(const int32_t *r, size_t count, int32_t *fields, size_t room)
 {
-    int32_t flags = f[8] | f[9] | f[10] | f[11] | f[12] | f[13];
-    return within(flags, 0, 1) && within(f[0], 1970, 2069) && within(f[1], 1, 12) && within(f[2], 1, 31) &&
-           within(f[3], 1, 7) && within(f[4], 0, 23) && within(f[5], 0, 59) && within(f[6], 0, 60) &&
-           within(f[7], -840, 840) && is_date((unsigned)f[0], (unsigned)f[1], (unsigned)f[2]) &&
-           is_time_of_day((unsigned)f[4], (unsigned)f[5], (unsigned)f[6], f[7]);
+    if (room < count)
+        return 20;
+    for (size_t i = 0; i < count; i++)
+        fields[i] = r[i];
+    return 0;
 }
 
-/* The zones of a receiver that knows CET and CEST only. */
-static inline bool is_central_european(const int32_t *f) { return f[7] == (f[10] == 1 ? 120 : 60); }
-
-static bool is_representable(uint8_t kind, const int32_t *f, size_t count)
+uint8_t reference_read(uint8_t kind, const uint8_t *s, size_t n, int32_t *fields, size_t room)
 {
-    if (count != (kind == GPS ? 17u : 14u) || !is_reading(f))
-        return false;
-    switch (kind) {
-    case STANDARD:
-        return f[13] == 0 && f[11] + f[12] < 2 && (is_central_european(f) || (f[7] == 0 && f[10] == 0));
-    case PZF:
-        return f[7] == 0 || is_central_european(f);
-    case GPS:
-        return within(f[14], -900000, 900000) && within(f[15], -1800000, 1800000) && within(f[16], 0, 9999);
-    default:
-        return is_central_european(f) && f[9] == 0 && f[12] == 0 && f[13] == 0 &&
-               (unsigned)f[3] == weekday_of(day_number((unsigned)f[0], (unsigned)f[1], (unsigned)f[2]));
+    int32_t r[GPS_FIELDS];
+    uint8_t refusal = read_kind(kind, s, n, r);
+    if (refusal != 0)
+        return refusal;
+    return fill_fields(r, fields_of(kind), fields, room);
+}
+
+/* Writing strings. "For a writer: 23, 20; it fills the first places it needs and changes nothing after them." */
+
+/* 23: "reading that no accepted string or minute of this format gives". The functions below make the only string that
+ * could give a reading. It is read, and what it gives is compared with the reading. */
+
+/* The last digits of a value. If it has more they read as another, and if it is below zero they are no digits. */
+static void write_number(uint8_t *s, size_t digits, int64_t value)
+{
+    for (size_t i = digits; i > 0; i--) {
+        s[i - 1] = (uint8_t)('0' + value % 10);
+        value /= 10;
     }
 }
 
-static void put_pair(uint8_t *out, int32_t value)
+static uint8_t flag(int32_t holds, char letter) { return (uint8_t)(holds == 1 ? letter : ' '); }
+
+static int64_t size_of(int64_t value) { return value < 0 ? -value : value; }
+
+static void write_clock(const int32_t *r, uint8_t *s, size_t date, size_t weekday, size_t time)
 {
-    out[0] = (uint8_t)('0' + value / 10 % 10);
-    out[1] = (uint8_t)('0' + value % 10);
+    write_number(s + date, 2, r[DAY]);
+    write_number(s + date + 3, 2, r[MONTH]);
+    write_number(s + date + 6, 2, r[YEAR]);
+    write_number(s + weekday, 1, r[WEEKDAY]);
+    write_number(s + time, 2, r[HOUR]);
+    write_number(s + time + 3, 2, r[MINUTE]);
+    write_number(s + time + 6, 2, r[SECOND]);
 }
 
-static void put_flag(uint8_t *out, int32_t flag, char letter) { *out = (uint8_t)(flag == 1 ? letter : ' '); }
-
-/* Puts a whole part, right-aligned over the blanks that stand there. */
-static void put_whole(uint8_t *out, int places, int32_t value)
+static void write_standard(const int32_t *r, uint8_t *s)
 {
-    do {
-        out[--places] = (uint8_t)('0' + value % 10);
-        value /= 10;
-    } while (value != 0);
+    write_clock(r, s, 3, 14, 18);
+    s[27] = flag(r[UNSYNCHRONISED], '#');
+    s[28] = flag(r[UNVERIFIED], '*');
+    s[29] = r[OFFSET] == 0 ? 'U' : flag(r[SUMMER], 'S');
+    s[30] = r[CHANGE] == 1 ? '!' : flag(r[LEAP], 'A');
 }
 
-static void put_angle(uint8_t *out, int places, int32_t angle, char above, char below)
+static void write_flags(const int32_t *r, uint8_t *s)
 {
-    int32_t size = angle < 0 ? -angle : angle;
-    put_whole(out, places, size / 10000);
-    put_pair(out + places + 1, size / 100 % 100);
-    put_pair(out + places + 3, size % 100);
-    out[places + 5] = (uint8_t)(angle < 0 ? below : above);
-}
-
-static void put_erlangen(uint8_t *out, const int32_t *f)
-{
-    put_pair(out + 1, f[2]);
-    put_pair(out + 4, f[1]);
-    put_pair(out + 7, f[0]);
-    out[11] = (uint8_t)('0' + f[3]);
-    put_pair(out + 14, f[4]);
-    put_pair(out + 17, f[5]);
-    put_pair(out + 20, f[6]);
-}
-
-static void put_uvxyza(uint8_t *out, const int32_t *f)
-{
-    static const char letters[] = "#*S!AR";
     for (int i = 0; i < 6; i++)
-        put_flag(out + i, f[8 + i], letters[i]);
+        s[i] = flag(r[UNSYNCHRONISED + i], flag_letters[i]);
 }
 
-static size_t write_standard(const int32_t *f, uint8_t *out)
+static void write_pzf(const int32_t *r, uint8_t *s)
 {
-    memcpy(out, "\002D:dd.mm.yy;T:w;U:hh.mm.ss;uvxy\003", 32);
-    put_pair(out + 3, f[2]);
-    put_pair(out + 6, f[1]);
-    put_pair(out + 9, f[0]);
-    out[14] = (uint8_t)('0' + f[3]);
-    put_pair(out + 18, f[4]);
-    put_pair(out + 21, f[5]);
-    put_pair(out + 24, f[6]);
-    put_flag(out + 27, f[8], '#');
-    put_flag(out + 28, f[9], '*');
-    out[29] = f[7] == 0 ? 'U' : f[7] == 120 ? 'S' : ' ';
-    out[30] = f[11] == 1 ? '!' : f[12] == 1 ? 'A' : ' ';
-    return 32;
+    write_clock(r, s, 1, 11, 14);
+    s[24] = flag(r[OFFSET] == 0, 'U');
+    write_flags(r, s + 25);
 }
 
-static size_t write_pzf(const int32_t *f, uint8_t *out)
+static void write_whole_part(uint8_t *s, size_t places, int64_t value)
 {
-    memcpy(out, "\002dd.mm.yy; w; hh:mm:ss; tuvxyza\003", 32);
-    put_erlangen(out, f);
-    put_flag(out + 24, f[7] == 0, 'U');
-    put_uvxyza(out + 25, f);
-    return 32;
+    write_number(s, places, value);
+    for (size_t i = 0; i + 1 < places && s[i] == '0'; i++)
+        s[i] = ' ';
 }
 
-static size_t write_gps(const int32_t *f, uint8_t *out)
+static void write_degrees(uint8_t *s, size_t places, int32_t degrees, uint8_t above, uint8_t below)
 {
-    int32_t offset = f[7] < 0 ? -f[7] : f[7];
-    memcpy(out, "\002dd.mm.yy; w; hh:mm:ss; +hh:mm; uvxyzab;   .    N    .    E     m\003", 66);
-    put_erlangen(out, f);
-    out[24] = f[7] < 0 ? '-' : '+';
-    put_pair(out + 25, offset / 60);
-    put_pair(out + 28, offset % 60);
-    put_uvxyza(out + 32, f);
-    put_flag(out + 38, f[6] == 60, 'L');
-    put_angle(out + 41, 2, f[14], 'N', 'S');
-    put_angle(out + 50, 3, f[15], 'E', 'W');
-    put_whole(out + 60, 4, f[16]);
-    return 66;
+    write_whole_part(s, places, size_of(degrees) / 10000);
+    write_number(s + places + 1, 4, size_of(degrees) % 10000);
+    s[places + 5] = degrees < 0 ? below : above;
 }
 
-static size_t write_elv(const int32_t *f, uint8_t *out)
+static void write_gps(const int32_t *r, uint8_t *s)
 {
-    memcpy(out, "YY-MM-DD-HH-MM-SS-FF\r", 21);
-    put_pair(out, f[0]);
-    put_pair(out + 3, f[1]);
-    put_pair(out + 6, f[2]);
-    put_pair(out + 9, f[4]);
-    put_pair(out + 12, f[5]);
-    put_pair(out + 15, f[6]);
-    put_pair(out + 18, f[10] + 2 * f[11] + 4 * f[8]);
-    return 21;
+    write_clock(r, s, 1, 11, 14);
+    s[24] = r[OFFSET] < 0 ? '-' : '+';
+    write_number(s + 25, 2, size_of(r[OFFSET]) / 60);
+    write_number(s + 28, 2, size_of(r[OFFSET]) % 60);
+    write_flags(r, s + 32);
+    s[38] = flag(r[SECOND] == 60, 'L');
+    write_degrees(s + 41, 2, r[LATITUDE], 'N', 'S');
+    write_degrees(s + 50, 3, r[LONGITUDE], 'E', 'W');
+    write_whole_part(s + 60, 4, r[HEIGHT]);
+}
+
+static void write_elv(const int32_t *r, uint8_t *s)
+{
+    write_number(s, 2, r[YEAR]);
+    write_number(s + 3, 2, r[MONTH]);
+    write_number(s + 6, 2, r[DAY]);
+    write_number(s + 9, 2, r[HOUR]);
+    write_number(s + 12, 2, r[MINUTE]);
+    write_number(s + 15, 2, r[SECOND]);
+    write_number(s + 18, 2, (r[SUMMER] == 1) + 2 * (r[CHANGE] == 1) + 4 * (r[UNSYNCHRONISED] == 1));
+}
+
+static bool are_same(const int32_t *a, const int32_t *b, size_t count)
+{
+    for (size_t i = 0; i < count; i++)
+        if (a[i] != b[i])
+            return false;
+    return true;
+}
+
+/* Fills the first places of lent memory. 20: "a buffer too short to write to" */
+static uint8_t fill_bytes(const uint8_t *s, size_t n, uint8_t *out, size_t room, size_t *written)
+{
+    if (room < n)
+        return 20;
+    for (size_t i = 0; i < n; i++)
+        out[i] = s[i];
+    *written = n;
+    return 0;
 }
 
 uint8_t reference_write(uint8_t kind, const int32_t *fields, size_t count, uint8_t *out, size_t room, size_t *written)
 {
-    static const uint8_t lengths[] = { 32, 32, 66, 21 };
+    static const char *const layouts[] = { standard_layout, pzf_layout, gps_layout, elv_layout };
+    static void (*const writers[])(const int32_t *, uint8_t *) = { write_standard, write_pzf, write_gps, write_elv };
+    uint8_t s[sizeof gps_layout];
+    int32_t back[GPS_FIELDS];
     if (kind > ELV)
         return 1;
-    if (!is_representable(kind, fields, count))
+    if (count != fields_of(kind))
         return 23;
-    if (room < lengths[kind])
-        return 20;
-    switch (kind) {
-    case STANDARD:
-        *written = write_standard(fields, out);
-        break;
-    case PZF:
-        *written = write_pzf(fields, out);
-        break;
-    case GPS:
-        *written = write_gps(fields, out);
-        break;
-    default:
-        *written = write_elv(fields, out);
-        break;
+    size_t n = strlen(layouts[kind]);
+    memcpy(s, layouts[kind], n);
+    writers[kind](fields, s);
+    if (read_kind(kind, s, n, back) != 0 || !are_same(back, fields, count))
+        return 23;
+    return fill_bytes(s, n, out, room, written);
+}
+
+/* DCF77 minutes. "Mark 0 short (100 ms), 1 long (200 ms), 2 gap, 3 and any larger byte on a tape unsure." */
+enum { SHORT, LONG, GAP };
+
+/* The number in the marks from the first to the last. "Lowest bit first" */
+static int32_t binary(const uint8_t *m, size_t first, size_t last)
+{
+    int32_t value = 0, weight = 1;
+    for (size_t i = first; i <= last; i++) {
+        if (m[i] == LONG)
+            value += weight;
+        weight *= 2;
     }
-    return 0;
+    return value;
 }
 
-/* The instant. */
-
-uint8_t reference_unix_time(const int32_t *fields, size_t count, int64_t *time)
+/* "Parity is even over 21..28, 29..35 and 36..58." */
+static bool is_even(const uint8_t *m, size_t first, size_t last)
 {
-    if (count < 14 || !is_reading(fields))
-        return 23;
-    int64_t days = day_number((unsigned)fields[0], (unsigned)fields[1], (unsigned)fields[2]);
-    *time = 86400 * days + 3600 * fields[4] + 60 * fields[5] + fields[6] - 60 * fields[7];
-    return 0;
+    int ones = 0;
+    for (size_t i = first; i <= last; i++)
+        if (m[i] == LONG)
+            ones++;
+    return ones % 2 == 0;
 }
 
-/* DCF77 minutes. */
-
-/* What the marks of an accepted minute say. */
-struct minute {
-    unsigned year, month, day, weekday, hour, minute;
-};
-
-/* Eight marks as eight bits, the first lowest; the machine is little-endian, as the library's archive asks for. Bits of
- * marks above 1 mean nothing, but *any then has more than the lowest bit of a byte. */
-static inline uint64_t pack8(const uint8_t *m, uint64_t *any)
+/* "For a minute: 11, 12, 13, 14, 15, 16, 17, 18, 7, 5, 6, 19" */
+static uint8_t read_marks(const uint8_t *m, size_t n, int32_t *r)
 {
-    uint64_t word;
-    memcpy(&word, m, 8);
-    *any |= word;
-    return word * 0x0102040810204080u >> 56;
-}
-
-/* Mark i of 59 or 60 is bit i. The last eight marks overlap those before them. */
-static inline uint64_t pack(const uint8_t *m, size_t n, uint64_t *any)
-{
-    uint64_t bits = pack8(m + n - 8, any) << (n - 8);
-    for (int i = 0; i < 56; i += 8)
-        bits |= pack8(m + i, any) << i;
-    return bits;
-}
-
-/* The number in so many bits from a mark on. */
-static inline unsigned bits_from(uint64_t bits, int mark, int count)
-{
-    return (unsigned)(bits >> mark) & ((1u << count) - 1);
-}
-
-static inline bool is_odd(unsigned bits)
-{
-    bits ^= bits >> 16;
-    bits ^= bits >> 8;
-    bits ^= bits >> 4;
-    return (0x6996 >> (bits & 15) & 1) != 0;
-}
-
-/* The order for a minute: 11, 12, 13, 14, 15, 16, 17, 18, 7, 5, 6, 19. */
-static inline uint8_t minute_error(const uint8_t *m, size_t n, uint64_t *packed, struct minute *t)
-{
+    /* 11: "run is not 59 or 60 marks" */
     if (n != 59 && n != 60)
         return 11;
-    uint64_t any = 0, bits = pack(m, n, &any);
-    *packed = bits;
-    if ((any & 0xfefefefefefefefeu) != 0)
-        return 12;
-    if (bits_from(bits, 0, 1) != 0 || bits_from(bits, 20, 1) != 1)
+    /* 12: "a mark in the run that is neither short nor long" */
+    for (size_t i = 0; i < n; i++)
+        if (m[i] != SHORT && m[i] != LONG)
+            return 12;
+    /* 13: "mark 0 is not short, or mark 20 is not long" */
+    if (m[0] != SHORT || m[20] != LONG)
         return 13;
-    if (bits_from(bits, 17, 1) == bits_from(bits, 18, 1))
+    /* 14: "marks 17 and 18 equal" */
+    if (m[17] == m[18])
         return 14;
-    if (is_odd(bits_from(bits, 21, 8)))
+    /* 15, 16, 17: "minute, hour, date parity" */
+    if (!is_even(m, 21, 28))
         return 15;
-    if (is_odd(bits_from(bits, 29, 7)))
+    if (!is_even(m, 29, 35))
         return 16;
-    if (is_odd(bits_from(bits, 36, 23)))
+    if (!is_even(m, 36, 58))
         return 17;
-    unsigned minute = bits_from(bits, 21, 4), hour = bits_from(bits, 29, 4), day = bits_from(bits, 36, 4);
-    unsigned month = bits_from(bits, 45, 4), year = bits_from(bits, 50, 4), decade = bits_from(bits, 54, 4);
-    if (minute > 9 || hour > 9 || day > 9 || month > 9 || year > 9 || decade > 9)
+
+    /* "minute 21..24 and tens 25..27, parity 28; hour 29..32, tens 33..34, parity 35; day 36..39, tens 40..41; weekday
+     * 42..44; month 45..48, ten 49; year 50..53, tens 54..57; parity 58." 18: "a decimal digit above 9" */
+    if (binary(m, 21, 24) > 9 || binary(m, 29, 32) > 9 || binary(m, 36, 39) > 9 || binary(m, 45, 48) > 9 ||
+        binary(m, 50, 53) > 9 || binary(m, 54, 57) > 9)
         return 18;
-    t->year = full_year(year + 10 * decade);
-    t->month = month + 10 * bits_from(bits, 49, 1);
-    t->day = day + 10 * bits_from(bits, 40, 2);
-    t->weekday = bits_from(bits, 42, 3);
-    t->hour = hour + 10 * bits_from(bits, 33, 2);
-    t->minute = minute + 10 * bits_from(bits, 25, 3);
-    if (t->weekday == 0)
+    r[MINUTE] = binary(m, 21, 24) + 10 * binary(m, 25, 27);
+    r[HOUR] = binary(m, 29, 32) + 10 * binary(m, 33, 34);
+    r[DAY] = binary(m, 36, 39) + 10 * binary(m, 40, 41);
+    r[WEEKDAY] = binary(m, 42, 44);
+    r[MONTH] = binary(m, 45, 48) + 10 * binary(m, 49, 49);
+    r[YEAR] = full_year(binary(m, 50, 53) + 10 * binary(m, 54, 57));
+    /* "A minute announces the time at which the next minute starts, second 0" */
+    r[SECOND] = 0;
+
+    /* "1..14 kept as sent; 15 antenna"; "16 change coming; 17, 18 zone: 0 1 offset 60, 1 0 offset 120 and summer time;
+     * 19 leap second coming; 20 start." */
+    r[MARKS_1_TO_14] = binary(m, 1, 14);
+    r[ANTENNA] = m[15] == LONG;
+    r[CHANGE] = m[16] == LONG;
+    r[SUMMER] = m[17] == LONG;
+    r[OFFSET] = m[17] == LONG ? 120 : 60;
+    r[LEAP] = m[19] == LONG;
+    r[UNSYNCHRONISED] = 0;
+    r[UNVERIFIED] = 0;
+    r[SIXTY_MARKS] = n == 60;
+
+    /* 7: "weekday outside 1..7" */
+    if (r[WEEKDAY] < 1 || r[WEEKDAY] > 7)
         return 7;
-    if (!is_date(t->year, t->month, t->day))
+    /* 5: "no such date" */
+    if (!is_date(r[YEAR], r[MONTH], r[DAY]))
         return 5;
-    if (t->hour >= 24 || t->minute >= 60)
+    /* 6: "no such time of day, second 60 rule included" */
+    if (!is_time_of_day(r[HOUR], r[MINUTE], r[SECOND], r[OFFSET]))
         return 6;
-    if (n == 60 && (bits_from(bits, 19, 1) != 1 || bits_from(bits, 59, 1) != 0 || t->minute != 0))
+    /* 19: "60 marks without all of: mark 19 long, mark 59 short, minute 0 announced" */
+    if (n == 60 && !(m[19] == LONG && m[59] == SHORT && r[MINUTE] == 0))
         return 19;
     return 0;
 }
 
 uint8_t reference_read_minute(const uint8_t *marks, size_t n, int32_t *fields, size_t room)
 {
-    struct minute t;
-    uint64_t bits;
-    uint8_t error = minute_error(marks, n, &bits, &t);
-    if (error != 0)
-        return error;
-    if (room < 16)
-        return 20;
-    fields[0] = (int32_t)t.year;
-    fields[1] = (int32_t)t.month;
-    fields[2] = (int32_t)t.day;
-    fields[3] = (int32_t)t.weekday;
-    fields[4] = (int32_t)t.hour;
-    fields[5] = (int32_t)t.minute;
-    fields[6] = 0;
-    fields[7] = marks[17] == 1 ? 120 : 60;
-    fields[8] = 0;
-    fields[9] = 0;
-    fields[10] = marks[17];
-    fields[11] = marks[16];
-    fields[12] = marks[19];
-    fields[13] = marks[15];
-    fields[14] = (int32_t)bits_from(bits, 1, 14);
-    fields[15] = n == 60;
-    return 0;
+    int32_t r[MINUTE_FIELDS];
+    uint8_t refusal = read_marks(marks, n, r);
+    if (refusal != 0)
+        return refusal;
+    return fill_fields(r, MINUTE_FIELDS, fields, room);
 }
 
-static inline unsigned parity(const uint8_t *m, int count)
+/* The lowest bits of a value. If it has more, or is below zero, they read as another. */
+static void write_binary(uint8_t *m, size_t first, size_t last, int32_t value)
 {
-    unsigned odd = 0;
-    for (int i = 0; i < count; i++)
-        odd ^= m[i];
-    return odd;
+    for (size_t i = first; i <= last; i++) {
+        m[i] = value % 2 == 1 ? LONG : SHORT;
+        value /= 2;
+    }
 }
 
-/* The lowest bits of a value, lowest first. */
-static void put_bits(uint8_t *out, int count, int32_t value)
+/* Makes the last mark of a group the one with which its parity is even. */
+static void write_parity(uint8_t *m, size_t first, size_t last)
 {
-    for (int i = 0; i < count; i++)
-        out[i] = value >> i & 1;
+    m[last] = SHORT;
+    if (!is_even(m, first, last))
+        m[last] = LONG;
+}
+
+/* The only marks that could give a reading; returns how many they are. */
+static size_t write_marks(const int32_t *r, uint8_t *m)
+{
+    m[0] = SHORT;
+    write_binary(m, 1, 14, r[MARKS_1_TO_14]);
+    m[15] = r[ANTENNA] == 1 ? LONG : SHORT;
+    m[16] = r[CHANGE] == 1 ? LONG : SHORT;
+    m[17] = r[SUMMER] == 1 ? LONG : SHORT;
+    m[18] = r[SUMMER] == 1 ? SHORT : LONG;
+    m[19] = r[LEAP] == 1 ? LONG : SHORT;
+    m[20] = LONG;
+    write_binary(m, 21, 24, r[MINUTE] % 10);
+    write_binary(m, 25, 27, r[MINUTE] / 10);
+    write_parity(m, 21, 28);
+    write_binary(m, 29, 32, r[HOUR] % 10);
+    write_binary(m, 33, 34, r[HOUR] / 10);
+    write_parity(m, 29, 35);
+    write_binary(m, 36, 39, r[DAY] % 10);
+    write_binary(m, 40, 41, r[DAY] / 10);
+    write_binary(m, 42, 44, r[WEEKDAY]);
+    write_binary(m, 45, 48, r[MONTH] % 10);
+    write_binary(m, 49, 49, r[MONTH] / 10);
+    write_binary(m, 50, 53, r[YEAR] % 10);
+    write_binary(m, 54, 57, r[YEAR] / 10 % 10);
+    write_parity(m, 36, 58);
+    m[59] = SHORT;
+    return r[SIXTY_MARKS] == 1 ? 60 : 59;
 }
 
 uint8_t reference_write_minute(const int32_t *fields, size_t count, uint8_t *out, size_t room, size_t *written)
 {
-    const int32_t *f = fields;
-    if (count != 16 || !is_reading(f) || f[6] != 0 || f[8] != 0 || f[9] != 0 || !is_central_european(f) ||
-        !within(f[14], 0, 16383) || !within(f[15], 0, 1) || (f[15] == 1 && (f[12] != 1 || f[5] != 0)))
+    uint8_t m[60];
+    int32_t back[MINUTE_FIELDS];
+    if (count != MINUTE_FIELDS)
         return 23;
-    size_t n = f[15] == 1 ? 60 : 59;
-    if (room < n)
-        return 20;
-    out[0] = 0;
-    put_bits(out + 1, 14, f[14]);
-    out[15] = (uint8_t)f[13];
-    out[16] = (uint8_t)f[11];
-    out[17] = (uint8_t)f[10];
-    out[18] = (uint8_t)(1 - f[10]);
-    out[19] = (uint8_t)f[12];
-    out[20] = 1;
-    put_bits(out + 21, 4, f[5] % 10);
-    put_bits(out + 25, 3, f[5] / 10);
-    out[28] = (uint8_t)parity(out + 21, 7);
-    put_bits(out + 29, 4, f[4] % 10);
-    put_bits(out + 33, 2, f[4] / 10);
-    out[35] = (uint8_t)parity(out + 29, 6);
-    put_bits(out + 36, 4, f[2] % 10);
-    put_bits(out + 40, 2, f[2] / 10);
-    put_bits(out + 42, 3, f[3]);
-    put_bits(out + 45, 4, f[1] % 10);
-    put_bits(out + 49, 1, f[1] / 10);
-    put_bits(out + 50, 4, f[0] % 10);
-    put_bits(out + 54, 4, f[0] / 10 % 10);
-    out[58] = (uint8_t)parity(out + 36, 22);
-    if (n == 60)
-        out[59] = 0;
-    *written = n;
-    return 0;
+    size_t n = write_marks(fields, m);
+    if (read_marks(m, n, back) != 0 || !are_same(back, fields, count))
+        return 23;
+    return fill_bytes(m, n, out, room, written);
 }
 
 /* Tape and sheet. */
 
-/* The sheet's number at a gap whose run, of n marks, starts at m. */
-static uint32_t run_number(const uint8_t *m, size_t n)
-{
-    struct minute t;
-    uint64_t bits;
-    uint8_t error = minute_error(m, n, &bits, &t);
-    if (error != 0)
-        return error;
-    uint32_t local = 1440 * day_number(t.year, t.month, t.day) + 60 * t.hour + t.minute;
-    return 100 + 32 * local + 16u * (n == 60) + 8u * m[17] + 4u * m[15] + 2u * m[16] + m[19];
-}
+enum { LONGEST_TAPE = 100000 };
 
-/* The first place of the run that ends before a place; *first says that no gap stands before it. */
-static inline size_t run_start(const uint8_t *marks, size_t place, bool *first)
+/* "Sheet number: 0 where there is no gap; at a gap the refusal number; or, accepted, 100 + 32 L + 16 (run of 60) + 8
+ * (offset 120) + 4 antenna + 2 change + 1 leap, where L is local minutes from 1970-01-01 00:00." */
+static uint32_t sheet_number(const uint8_t *marks, size_t place)
 {
-    while (place > 0 && marks[place - 1] != GAP)
-        place--;
-    *first = place == 0;
-    return place;
-}
+    int32_t r[MINUTE_FIELDS];
+    if (marks[place] != GAP)
+        return 0;
 
-static inline uint32_t gap_number(const uint8_t *marks, size_t gap)
-{
-    bool first;
-    size_t start = run_start(marks, gap, &first);
-    return first ? 10 : run_number(marks + start, gap - start);
+    /* "The run at a gap is what lies between it and the nearest earlier gap." */
+    size_t start = place;
+    while (start > 0 && marks[start - 1] != GAP)
+        start--;
+    /* 10: "gap with no earlier gap on the tape"; "on a tape 10 comes before these" */
+    if (start == 0)
+        return 10;
+    uint8_t refusal = read_marks(marks + start, place - start, r);
+    if (refusal != 0)
+        return refusal;
+
+    int32_t local = 1440 * days_since_1970(r[YEAR], r[MONTH], r[DAY]) + 60 * r[HOUR] + r[MINUTE];
+    int32_t flags = 16 * r[SIXTY_MARKS] + 8 * (r[OFFSET] == 120) + 4 * r[ANTENNA] + 2 * r[CHANGE] + r[LEAP];
+    return 100 + 32 * (uint32_t)local + (uint32_t)flags;
 }
 
 uint8_t reference_outcome_at(const uint8_t *marks, size_t n, size_t place, uint32_t *number)
 {
+    /* 20: "tape over 100,000" */
     if (n > LONGEST_TAPE)
         return 20;
+    /* 21: "place at or past the tape's end" */
     if (place >= n)
         return 21;
-    *number = marks[place] == GAP ? gap_number(marks, place) : 0;
+    *number = sheet_number(marks, place);
     return 0;
 }
 
 uint8_t reference_fill_outcomes(const uint8_t *marks, size_t n, uint32_t *outcomes, size_t count)
 {
+    /* 20: "sheet and tape lengths differ, tape over 100,000" */
     if (count != n || n > LONGEST_TAPE)
         return 20;
-    bool first = true;
-    size_t start = 0;
-    for (size_t i = 0; i < n; i++) {
-        if (marks[i] != GAP) {
-            outcomes[i] = 0;
-            continue;
-        }
-        outcomes[i] = first ? 10 : run_number(marks + start, i - start);
-        first = false;
-        start = i + 1;
-    }
+    for (size_t i = 0; i < n; i++)
+        outcomes[i] = sheet_number(marks, i);
     return 0;
 }
 
-/* The run before the place is looked for once: it ends at the place, or goes on to the gap after it. */
+/* Puts the tape's number at a place of the sheet. Returns 1 if another stood there, else 0. */
+static size_t put_right(const uint8_t *marks, uint32_t *outcomes, size_t place)
+{
+    uint32_t before = outcomes[place];
+    outcomes[place] = sheet_number(marks, place);
+    return outcomes[place] == before ? 0 : 1;
+}
+
+/* "For a correction: 20, 21, 22." */
 uint8_t reference_correct_mark(uint8_t *marks, size_t n, uint32_t *outcomes, size_t count, size_t place, uint8_t mark,
                                size_t *changed)
 {
+    /* 20: "sheet and tape lengths differ, tape over 100,000" */
     if (count != n || n > LONGEST_TAPE)
         return 20;
+    /* 21: "place at or past the tape's end" */
     if (place >= n)
         return 21;
+    /* 22: "new mark above 3" */
     if (mark > 3)
         return 22;
-    bool first;
-    size_t start = run_start(marks, place, &first), differ = 0;
-    uint32_t number = 0;
+
+    /* "The corrected tape is the old one with the new mark at the place named." */
     marks[place] = mark;
-    if (mark == GAP) {
-        number = first ? 10 : run_number(marks + start, place - start);
-        start = place + 1;
-        first = false;
-    }
-    differ += outcomes[place] != number;
-    outcomes[place] = number;
-    const uint8_t *next = place + 1 < n ? memchr(marks + place + 1, GAP, n - place - 1) : NULL;
-    if (next != NULL) {
-        size_t gap = (size_t)(next - marks);
-        number = first ? 10 : run_number(marks + start, gap - start);
-        differ += outcomes[gap] != number;
-        outcomes[gap] = number;
-    }
-    *changed = differ;
+
+    /* "The first gap after a place is the nearest later place whose mark is 2" */
+    size_t gap = place + 1;
+    while (gap < n && marks[gap] != GAP)
+        gap++;
+
+    /* The numbers at the place and at the first gap after it are put right, all others stay. "Its count is the
+     * number of places at which the sheet after it differs from the sheet before it." */
+    *changed = put_right(marks, outcomes, place);
+    if (gap < n)
+        *changed += put_right(marks, outcomes, gap);
     return 0;
 }
 
-/* The serial feed. Runs of plain bytes are kept or passed over at once; then comes STX, ETX or the byte too many. */
+/* The serial feed. The state: the bytes kept, how many they are, and the mode. An event: 0 "nothing yet", n "a complete
+ * string of n bytes", 255 "an overlong string dropped". */
+enum { STX = 2, ETX = 3 };
+enum { MOST_KEPT = 66, KEPT = 66, MODE = 67, STATE_SIZE = 68 };
+enum { OUTSIDE, INSIDE, OVERLONG };
+enum { NOTHING_YET = 0, DROPPED = 255 };
 
+/* A single step: "The feed's state goes in and is handed back with each byte." */
+static uint8_t feed_byte(uint8_t *state, uint8_t byte)
+{
+    /* "A state that says more than 66 kept counts as outside a string." */
+    if (state[KEPT] > MOST_KEPT)
+        state[MODE] = OUTSIDE;
+
+    /* "STX always starts afresh and answers nothing yet, whatever came before." */
+    if (byte == STX) {
+        state[0] = STX;
+        state[KEPT] = 1;
+        state[MODE] = INSIDE;
+        return NOTHING_YET;
+    }
+
+    /* "Inside, bytes are kept up to 66, STX among them; a further byte that is not STX makes the string overlong until
+     * the next STX or ETX." "If 66 are kept and ETX comes, the string is dropped." */
+    if (state[MODE] == INSIDE && state[KEPT] == MOST_KEPT) {
+        state[MODE] = OVERLONG;
+    } else if (state[MODE] == INSIDE) {
+        state[state[KEPT]] = byte;
+        state[KEPT]++;
+    }
+
+    /* "ETX ends a kept string (n counts STX and ETX; the state's first n bytes are then the string) or drops an
+     * overlong one, and the state is then outside; outside it does nothing." */
+    uint8_t event = NOTHING_YET;
+    if (byte == ETX && state[MODE] == INSIDE)
+        event = state[KEPT];
+    if (byte == ETX && state[MODE] == OVERLONG)
+        event = DROPPED;
+    if (byte == ETX)
+        state[MODE] = OUTSIDE;
+    return event;
+}
+
+/* "Over a lent slice the feed stops after an allowance of bytes that the caller names, at the slice's end, or just
+ * after the first string, complete or dropped. It returns the number of bytes taken, which is the number of single
+ * steps." */
 uint8_t reference_feed(uint8_t *state, size_t size, const uint8_t *s, size_t n, size_t limit, size_t *taken,
                        uint8_t *event)
 {
-    if (size < STATE)
+    if (size < STATE_SIZE)
         return 20;
-    size_t end = n < limit ? n : limit, i = 0;
-    unsigned count = state[COUNT], mode = count > KEPT ? OUTSIDE : state[MODE];
-    uint8_t found = 0;
-    for (;;) {
-        if (mode == INSIDE) {
-            size_t stop = end - i < KEPT - count ? end : i + (KEPT - count);
-            while (i < stop && s[i] != STX && s[i] != ETX)
-                state[count++] = s[i++];
-        } else {
-            while (i < end && s[i] != STX && s[i] != ETX)
-                i++;
-        }
-        if (i == end)
-            break;
-        uint8_t byte = s[i++];
-        if (byte == STX) {
-            state[0] = STX;
-            count = 1;
-            mode = INSIDE;
-        } else if (byte != ETX) {
-            mode = OVERLONG;
-        } else if (mode == INSIDE && count < KEPT) {
-            state[count++] = ETX;
-            mode = OUTSIDE;
-            found = (uint8_t)count;
-            break;
-        } else if (mode == INSIDE || mode == OVERLONG) {
-            mode = OUTSIDE;
-            found = DROPPED;
-            break;
-        }
+    *taken = 0;
+    *event = NOTHING_YET;
+    while (*taken < limit && *taken < n && *event == NOTHING_YET) {
+        *event = feed_byte(state, s[*taken]);
+        ++*taken;
     }
-    state[COUNT] = (uint8_t)count;
-    state[MODE] = (uint8_t)mode;
-    *taken = i;
-    *event = found;
     return 0;
 }

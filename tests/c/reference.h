@@ -1,5 +1,5 @@
-/* Document 01 in plain C, written from the document alone. The functions are those of radio_clock.h under another name:
- * what the library is compared with, and what its speed is measured against. */
+/* Document 01 in plain C, written from the document alone: what the library is compared with. The functions are
+ * those of radio_clock.h under another name. */
 #ifndef REFERENCE_H
 #define REFERENCE_H
 

@@ -1,7 +1,8 @@
 # make test                proves and runs everything from nothing
 # make list FILE=...       proves and builds the listing program, and lists FILE
 # make outside             the tests that are not Rattle's: the listing program and the C side
-# make c-test              the header, the comparison with plain C, its self test, the collector, what is installed
+# make c-test              the header, the comparison with plain C, its self test, the benchmark's plain C compared, the
+#                          collector, what is installed
 # make fuzz N=... SEED=... the comparison with plain C on N random cases
 # make bench               prints docs/BENCHMARKS.md
 # make collector           target/c/collector
@@ -19,9 +20,11 @@ PLAIN = $(CC) -std=c99 -O2 $(WARN) -Iinclude -Itests/c
 CHECKED = $(CC) -std=c99 -O1 -g $(WARN) -fsanitize=address,undefined -fno-sanitize-recover=all -Iinclude -Itests/c
 COMPARE = $(addprefix tests/c/,compare.c examples.c inputs.c lend.c reference.c)
 BENCH = $(addprefix tests/c/,bench.c bench_plain.c inputs.c reference.c)
+ENTRIES = kind read write read_minute write_minute unix_time outcome_at fill_outcomes correct_mark feed
 HEADERS = include/radio_clock.h $(wildcard tests/c/*.h)
 
-.PHONY: test list outside c-test c-header fuzz c-selftest bench collector c-collector samples install c-install library
+.PHONY: test list outside c-test c-header fuzz c-selftest c-plain bench collector c-collector samples install \
+        c-install library
 
 test:
 	bash .ci/run
@@ -40,7 +43,7 @@ target/staticlib/libradio_clock.a: $(CRATES)
 target/bin/list_times: $(CRATES)
 	@rt check list_times >&2
 
-c-test: c-header c-selftest fuzz c-collector c-install
+c-test: c-header c-selftest c-plain fuzz c-collector c-install
 
 c-header: $(LIBRARY)
 	@mkdir -p $(C)
@@ -60,6 +63,14 @@ $(C)/selftest: $(COMPARE) tests/c/faulty.c $(HEADERS)
 
 c-selftest: $(C)/selftest
 	tests/c/selftest.sh $(C)/selftest
+
+# The benchmark's plain C under the library's names, so that what compares the library compares it.
+$(C)/compare-plain: $(COMPARE) tests/c/bench_plain.c $(HEADERS)
+	@mkdir -p $(C)
+	$(CHECKED) $(foreach entry,$(ENTRIES),-Dplain_$(entry)=radio_clock_$(entry)) $(COMPARE) tests/c/bench_plain.c -o $@
+
+c-plain: $(C)/compare-plain
+	$(C)/compare-plain -n 400000 $(if $(SEED),-s $(SEED))
 
 $(C)/bench: $(BENCH) $(HEADERS) $(LIBRARY)
 	@mkdir -p $(C)

@@ -14,6 +14,7 @@ import threading
 import tty
 
 import rules
+from string_vectors import GPS, NO_SUCH_HOUR, STANDARD, put, random_text
 
 STX, ETX = 2, 3
 HEADING = b"time zone flags\n"
@@ -39,18 +40,11 @@ def feed(data):
             state = "outside"
 
 
-def read(string):
-    kind = rules.kind_of(string)
-    return rules.READERS[kind](string) if kind else (1, None)
-
-
 def time_line(r):
-    size = abs(r["offset"])
     flags = zip(rules.FLAG_LETTERS + "L", [r[name] for name in rules.FLAG_NAMES] + [r["second"] == 60])
     return (
         f"{r['year']:04}-{r['month']:02}-{r['day']:02} {r['hour']:02}:{r['minute']:02}:{r['second']:02} "
-        f"{'-' if r['offset'] < 0 else '+'}{size // 60:02}:{size % 60:02} "
-        f"{''.join(letter if on else '-' for letter, on in flags)}"
+        f"{rules.text_offset(r['offset'])} {''.join(letter if on else '-' for letter, on in flags)}"
     )
 
 
@@ -63,7 +57,7 @@ def lines(data):
             text.append("dropped")
             continue
         frames += 1
-        number, r = read(string)
+        number, r = rules.read(rules.kind_of(string), string)
         refused += number != 0
         text.append(f"refused {number}" if number else time_line(r))
     return "".join(line + "\n" for line in text).encode(), (frames, refused, dropped)
@@ -80,27 +74,20 @@ def listing(data):
 
 # Inputs.
 
-STANDARD = b"\x02D:08.11.06;T:3;U:14.39.39;    \x03"
-PZF = b"\x0208.11.06; 3; 24:00:00; U      \x03"
-GPS = b"\x0209.07.93; 5; 08:48:26; +00:00;        ; 49.5736N  11.0280E  373m\x03"
 LEAP = b"\x0201.01.17; 7; 00:59:60; +01:00;     A L; 49.5736N  11.0280E  373m\x03"
 WEST = b"\x0229.02.00; 2; 23:59:59; -09:30; #*S! R ; 90.0000S 180.0000W    0m\x03"
 
 
-def changed(string, at, new):
-    return string[:at] + new + string[at + len(new) :]
-
-
 REFUSED = {
     1: b"\x02too short\x03",
-    2: changed(GPS, 64, b"M"),
-    3: changed(STANDARD, 3, b"x"),
-    4: changed(GPS, 38, b"l"),
-    5: changed(STANDARD, 3, b"31"),
-    6: changed(GPS, 14, b"24"),
-    7: changed(STANDARD, 14, b"0"),
-    8: changed(GPS, 24, b"-"),
-    9: changed(WEST, 41, b"91"),
+    2: put(GPS, 64, "M"),
+    3: put(STANDARD, 3, "x"),
+    4: put(GPS, 38, "l"),
+    5: put(STANDARD, 3, "31"),
+    6: put(GPS, 14, "24"),
+    7: put(STANDARD, 14, "0"),
+    8: put(GPS, 24, "-"),
+    9: put(WEST, 41, "91"),
 }
 
 
@@ -109,26 +96,11 @@ def framed(n):
     return b"\x02" + b"x" * (n - 2) + b"\x03"
 
 
-def random_string(rng):
-    r = rules.reading(
-        rng.randint(1970, 2069), rng.randint(1, 12), rng.randint(1, 28), rng.randint(1, 7), rng.randint(0, 23),
-        rng.randint(0, 59), rng.randint(0, 59), 0, "".join(c for c in rules.FLAG_LETTERS if rng.random() < 0.3),
-    )
-    kind = rng.choice(["standard", "pzf", "gps"])
-    offset = rng.randint(-840, 840) if kind == "gps" else 120 if r["summer"] else rng.choice([0, 60])
-    position = dict(
-        latitude=rng.randint(-900000, 900000), longitude=rng.randint(-1800000, 1800000), height=rng.randint(0, 9999)
-    )
-    if kind == "standard" and r["change"]:
-        r["leap"] = False
-    return rules.TEXTS[kind](dict(r, offset=offset, **position)).encode()
-
-
 def random_stream(rng):
     """Valid strings, strings with wrong bytes or a piece missing, overlong ones and noise."""
     stream = b""
     for _ in range(rng.randint(1, 60)):
-        piece = bytearray(random_string(rng))
+        piece = bytearray(random_text(rng, rng.choice(["standard", "pzf", "gps"])))
         kind = rng.random()
         if kind < 0.3:
             for _ in range(rng.randint(1, 3)):
@@ -149,14 +121,14 @@ def capture():
     noise = b"\r\n\x00\xfe garbled 08.11.06\x03"
     summer = b"\x02D:25.03.07;T:7;U:01.59.59;#* !\x03\x02D:25.03.07;T:7;U:03.00.00;  S \x03"
     return b"".join(
-        [noise, STANDARD, summer, changed(PZF, 14, b"14"), PZF, GPS, noise, framed(67), WEST]
+        [noise, STANDARD, summer, put(NO_SUCH_HOUR, 14, "14"), NO_SUCH_HOUR, GPS, noise, framed(67), WEST]
         + [string for _, string in sorted(REFUSED.items())]
-        + [changed(LEAP, 20, b"59")[:38] + b" " + LEAP[39:], LEAP, b"\x02D:08.11.06;T:3;U:14.", STANDARD, b"\x02D:08."]
+        + [put(put(LEAP, 20, "59"), 38, " "), LEAP, b"\x02D:08.11.06;T:3;U:14.", STANDARD, b"\x02D:08."]
     )
 
 
 CASES = {
-    "document 01": STANDARD + PZF,
+    "document 01": STANDARD + NO_SUCH_HOUR,
     "empty": b"",
     "noise only": bytes(b for b in range(256) if b != STX) * 300,
     "no last ETX": STANDARD + GPS[:-1],
@@ -168,7 +140,7 @@ CASES = {
     "21 bytes": framed(21) + b"\x0206-11-08-14-39-39-0\x03",
     "every other length": b"".join(framed(n) for n in range(2, 80)),
     "every refusal": b"".join(REFUSED.values()),
-    "leap second": LEAP + changed(LEAP, 38, b" ") + changed(GPS, 38, b"L"),
+    "leap second": LEAP + put(LEAP, 38, " ") + put(GPS, 38, "L"),
     "west": WEST,
 }
 
@@ -242,7 +214,7 @@ def shown_at_once(program):
     """A line stands on standard output as soon as its string has come, while the input goes on."""
     child = subprocess.Popen([program], stdin=subprocess.PIPE, stdout=subprocess.PIPE, bufsize=0)
     read_until(child.stdout, HEADING, "heading at once")
-    for string in (STANDARD, PZF, GPS):
+    for string in (STANDARD, NO_SUCH_HOUR, GPS):
         child.stdin.write(string[:10])
         child.stdin.write(string[10:])
         read_until(child.stdout, lines(string)[0], "line at once")
@@ -281,7 +253,7 @@ def failing_read(program):
     reader, line = pty.openpty()
     tty.setraw(line)
     child = subprocess.Popen([program], stdin=reader, stdout=subprocess.PIPE, stderr=subprocess.PIPE)
-    data = STANDARD + PZF
+    data = STANDARD + NO_SUCH_HOUR
     os.write(line, data)
     read_until(child.stdout, HEADING + lines(data)[0], "before the failing read")
     os.close(line)

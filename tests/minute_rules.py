@@ -1,11 +1,9 @@
 """Document 01's rules for one DCF77 minute, in plain Python: written from the paper, sharing nothing with the library."""
-from datetime import date
-
 import rules
 from rules import Refused
 
-MARKS_1_TO_14 = range(1, 15)
 NUMBERS = dict(minute=(21, 3), hour=(29, 2), day=(36, 2), month=(45, 1), year=(50, 4))
+DIGITS_OF_FOUR_BITS = (21, 29, 36, 45, 50, 54)
 PARITIES = ((15, 21, 28), (16, 29, 35), (17, 36, 58))
 
 
@@ -19,14 +17,8 @@ def two_digits(m, name):
     return binary(m, at, 4) + 10 * binary(m, at + 4, tens)
 
 
+@rules.checked
 def read_minute(m):
-    try:
-        return 0, announced(list(m))
-    except Refused as refused:
-        return refused.number, None
-
-
-def announced(m):
     """'For a minute: 11, 12, 13, 14, 15, 16, 17, 18, 7, 5, 6, 19'"""
     if len(m) not in (59, 60):
         raise Refused(11)
@@ -39,7 +31,7 @@ def announced(m):
     for number, first, last in PARITIES:
         if sum(m[first : last + 1]) % 2:
             raise Refused(number)
-    if any(binary(m, at, 4) > 9 for at in (21, 29, 36, 45, 50, 54)):
+    if any(binary(m, at, 4) > 9 for at in DIGITS_OF_FOUR_BITS):
         raise Refused(18)
     flags = "".join(f for f, at in (("R", 15), ("!", 16), ("S", 17), ("A", 19)) if m[at])
     r = rules.reading(rules.full_year(two_digits(m, "year")), two_digits(m, "month"), two_digits(m, "day"), binary(m, 42, 3),
@@ -48,7 +40,7 @@ def announced(m):
         raise Refused(7)
     if not rules.date_exists(r["year"], r["month"], r["day"]):
         raise Refused(5)
-    if r["hour"] > 23 or r["minute"] > 59:
+    if not rules.time_exists(r["hour"], r["minute"], r["second"], r["offset"]):
         raise Refused(6)
     if len(m) == 60 and not (m[19] == 1 and m[59] == 0 and r["minute"] == 0):
         raise Refused(19)
@@ -86,6 +78,5 @@ def run_number(m):
     number, r = read_minute(m)
     if number:
         return number
-    days = (date(r["year"], r["month"], r["day"]) - date(1970, 1, 1)).days
-    local = 1440 * days + 60 * r["hour"] + r["minute"]
+    local = 1440 * rules.days_since_1970(r["year"], r["month"], r["day"]) + 60 * r["hour"] + r["minute"]
     return 100 + 32 * local + 16 * r["sixty"] + 8 * (r["offset"] == 120) + 4 * r["antenna"] + 2 * r["change"] + r["leap"]

@@ -7,7 +7,7 @@ from string_vectors import KINDS, answer_of, fields, written
 
 HEAD = [0] * 18 + [1, 0, 1]
 P3 = HEAD + [int(mark) for mark in "10011100" "0010100" "00010011010001011000001"]
-GROUPS = ((21, 28), (29, 35), (36, 58))
+GROUPS = [(first, last) for _, first, last in minute_rules.PARITIES]
 
 
 def as_text(m):
@@ -80,11 +80,12 @@ def zones():
 
 def digits_above_9():
     lines = []
-    for at, (first, last) in ((21, GROUPS[0]), (29, GROUPS[1]), (36, GROUPS[2]), (45, GROUPS[2]), (50, GROUPS[2]), (54, GROUPS[2])):
+    for at in minute_rules.DIGITS_OF_FOUR_BITS:
+        first, last = next(group for group in GROUPS if at <= group[1])
         for digit in range(8, 16):
             m = list(P3)
             m[at : at + 4] = minute_rules.bits(digit, 4)
-            m[last] = sum(m[first:last]) % 2
+            m[first : last + 1] = minute_rules.with_parity(m[first:last])
             lines.append(read(m))
     return lines
 
@@ -138,7 +139,7 @@ def other_minutes():
 
 def random_minute(chance):
     summer = chance.random() < 0.5
-    return reading(year=chance.randrange(1970, 2070), month=chance.randrange(1, 13), day=chance.randrange(1, 29), weekday=chance.randrange(1, 8),
+    return reading(year=chance.choice(rules.YEARS), month=chance.randrange(1, 13), day=chance.randrange(1, 29), weekday=chance.randrange(1, 8),
                    hour=chance.randrange(24), minute=chance.randrange(60), summer=summer, offset=120 if summer else 60,
                    change=chance.random() < 0.3, leap=chance.random() < 0.3, antenna=chance.random() < 0.3, marks=chance.randrange(1 << 14))
 

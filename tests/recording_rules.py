@@ -3,13 +3,10 @@ from functools import lru_cache
 from operator import ne
 
 import minute_rules
-import rules
 from rules import Refused
 
 LONGEST = 100_000
 GAP = 2
-MARKS = 100_001
-LEAP_MINUTE = 1500
 
 run_number = lru_cache(maxsize=None)(minute_rules.run_number)
 
@@ -63,34 +60,3 @@ def next_gap(tape, place):
     """'the nearest later place whose mark is 2'"""
     at = bytes(tape).find(GAP, place + 1)
     return None if at < 0 else at
-
-
-# The tape of the vectors: minutes from the one that announces 8 November 2006 00:00 on, a gap after each.
-
-
-def minute(i):
-    """Summer time ends after three hours; the second day has a leap second at 01:00."""
-    days, minutes = divmod(i, 1440)
-    flags = ("S" if i < 180 else "") + ("!" if minutes // 60 == 2 and not days else "") + ("R" if i % 7 == 0 else "")
-    flags += "A" if 1440 < i <= LEAP_MINUTE else ""
-    r = rules.reading(2006, 11, 8 + days, 3 + days, minutes // 60, minutes % 60, 0, 120 if i < 180 else 60, flags)
-    return dict(r, marks=i, sixty=i == LEAP_MINUTE)
-
-
-@lru_cache(maxsize=None)
-def long_tape():
-    """Whole minutes, and unsure marks where no further one fits."""
-    tape = []
-    i = 0
-    while True:
-        m = minute_rules.write_minute(minute(i))
-        if len(tape) + len(m) > MARKS:
-            return bytes(tape + [3] * (MARKS - len(tape)))
-        tape += m
-        if len(tape) < MARKS:
-            tape.append(GAP)
-        i += 1
-
-
-def day(length):
-    return list(long_tape()[:length])

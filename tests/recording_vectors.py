@@ -1,18 +1,21 @@
 """The sections of the table on tapes and sheets; the answers come from `recording_rules`, written from the paper."""
 import random
+from functools import lru_cache
 from operator import mul
 
 import minute_rules
 import minute_vectors
 import recording_rules
-from rules import Refused
+import rules
+from minute_vectors import P3
+from recording_rules import GAP, LONGEST
 
-P3 = minute_vectors.P3
-P4 = [2, *P3, 2]
+P4 = [GAP, *P3, GAP]
 DAY = 86_400
 LAST = DAY - 1
+LEAP_MINUTE = 1500
 POWERS = [1]
-for _ in range(100_000):
+for _ in range(LONGEST):
     POWERS.append(POWERS[-1] * 16777619 % 2**32)
 
 
@@ -21,14 +24,37 @@ class Tape:
 
     def __init__(self, marks, text=None):
         self.marks = list(marks)
-        self.text = ": " + "".join(map(str, marks)) if text is None else text
+        self.text = ": " + minute_vectors.as_text(marks) if text is None else text
 
     def line(self, command, *numbers):
         return " ".join(map(str, (command, len(self.marks), *numbers))) + self.text
 
 
+def minute(i):
+    """Summer time ends after three hours; the second day has a leap second at 01:00."""
+    days, minutes = divmod(i, 1440)
+    flags = ("S" if i < 180 else "") + ("!" if minutes // 60 == 2 and not days else "") + ("R" if i % 7 == 0 else "")
+    flags += "A" if 1440 < i <= LEAP_MINUTE else ""
+    r = rules.reading(2006, 11, 8 + days, 3 + days, minutes // 60, minutes % 60, 0, 120 if i < 180 else 60, flags)
+    return dict(r, marks=i, sixty=i == LEAP_MINUTE)
+
+
+@lru_cache(maxsize=None)
+def long_tape():
+    """Minutes from the one that announces 8 November 2006 00:00 on, a gap after each; unsure marks where no more fit."""
+    tape, i = [], 0
+    while True:
+        m = minute_rules.write_minute(minute(i))
+        if len(tape) + len(m) > LONGEST + 1:
+            return tape + [3] * (LONGEST + 1 - len(tape))
+        tape += m
+        if len(tape) < LONGEST + 1:
+            tape.append(GAP)
+        i += 1
+
+
 def day(length=DAY):
-    return Tape(recording_rules.day(length), "")
+    return Tape(long_tape()[:length], "")
 
 
 def total(numbers):
@@ -39,7 +65,7 @@ def total(numbers):
 def answer_of(rule, *arguments):
     try:
         return str(rule(*arguments))
-    except Refused as refused:
+    except rules.Refused as refused:
         return f"refused {refused.number}"
 
 
@@ -89,7 +115,8 @@ def examples():
     tape = Tape(P4)
     lines = [fill(61, tape), *(at(place, tape) for place in (0, 1, 30, 59, 60, 61))]
     lines += [correct(30, 2, tape), correct(60, 0, tape), correct(30, 0, tape), correct(61, 0, tape)]
-    return lines + [fill(2, Tape([2, 2])), at(0, Tape([2, 2])), at(1, Tape([2, 2]))]
+    two_gaps = Tape([GAP, GAP])
+    return lines + [fill(2, two_gaps), at(0, two_gaps), at(1, two_gaps)]
 
 
 def every_place_and_mark():
@@ -102,7 +129,7 @@ def every_place_and_mark():
 def short_tapes():
     """No mark at all, no gap, one gap, gaps alone, and unsure marks."""
     few = ([], [0], [2], [1, 1], [2, 1], [1, 2], [2, 2, 2], [3, 2, 9, 2, 4])
-    tapes = [Tape(m) for m in (*few, P3, [*P3, 2], [2, *P3])]
+    tapes = [Tape(m) for m in (*few, P3, [*P3, GAP], [GAP, *P3])]
     lines = [fill(len(t.marks), t) for t in tapes]
     lines += [at(place, t) for t in tapes for place in range(min(len(t.marks), 5) + 1)]
     for t in tapes:
@@ -114,8 +141,8 @@ def short_tapes():
 def leap_minutes():
     """A run of 60 marks, whole, with a mark too few and one too many, and two minutes that a gap parts."""
     leap = minute_rules.write_minute(minute_vectors.reading(hour=1, minute=0, leap=True, sixty=True))
-    tape = Tape([2, *leap, 2, *P3, 2])
-    joined = Tape([2, *P3, 3, *P3, 2])
+    tape = Tape([GAP, *leap, *P4])
+    joined = Tape([GAP, *P3, 3, *P3, GAP])
     lines = [fill(len(t.marks), t) for t in (tape, joined)] + [at(61, tape), at(121, tape)]
     lines += [correct(place, mark, tape) for place in (0, 1, 20, 60, 61, 62, 121) for mark in range(4)]
     return lines + [correct(place, mark, joined) for place in (0, 59, 60, 61, 120) for mark in range(4)]
@@ -175,14 +202,15 @@ def other_lengths():
 
 def longest_tapes():
     """100,000 marks pass and 100,001 do not; the second day has a leap second."""
-    longest, longer = day(100_000), day(100_001)
-    lines = [fill(100_000, longest), fill(100_001, longer), fill(100_000, longer), fill(100_001, longest)]
-    lines += [at(place, longest) for place in (90_060, 90_120, 99_960, 99_999, 100_000)]
-    lines += [at(place, longer) for place in (0, 100_001)]
-    cases = ((90_020, 2), (90_060, 0), (90_059, 1), (99_960, 0), (99_999, 2), (100_000, 2))
+    more = LONGEST + 1
+    longest, longer = day(LONGEST), day(more)
+    lines = [fill(LONGEST, longest), fill(more, longer), fill(LONGEST, longer), fill(more, longest)]
+    lines += [at(place, longest) for place in (90_060, 90_120, 99_960, 99_999, LONGEST)]
+    lines += [at(place, longer) for place in (0, more)]
+    cases = ((90_020, 2), (90_060, 0), (90_059, 1), (99_960, 0), (99_999, 2), (LONGEST, 2))
     lines += [correct(*case, longest) for case in cases]
-    lines += [unfit(100_001, *case, longer) for case in ((30, 2), (100_001, 4))]
-    return lines + [unfit(100_000, 30, 2, longer)]
+    lines += [unfit(more, *case, longer) for case in ((30, 2), (more, 4))]
+    return lines + [unfit(LONGEST, 30, 2, longer)]
 
 
 SECTIONS = (
@@ -202,7 +230,7 @@ SECTIONS = (
 def check_against_document():
     """P4 to P9, by the document's own numbers."""
     sheet = [10] + [0] * 59 + [620265028]
-    assert recording_rules.sheet_of(P4) == sheet and recording_rules.sheet_of([2, 2]) == [10, 11]
+    assert recording_rules.sheet_of(P4) == sheet and recording_rules.sheet_of([GAP, GAP]) == [10, 11]
     for place, mark, count, mended in (30, 2, 2, {30: 11, 60: 11}), (60, 0, 1, {60: 0}), (30, 0, 0, {}):
         marks, numbers = list(P4), list(sheet)
         assert recording_rules.correct(marks, numbers, place, mark) == count

@@ -1,13 +1,15 @@
 """Document 01's rules for time strings, in plain Python: written from the paper, sharing nothing with the library.
 
-A reading is a dict; `read_KIND(bytes)` gives (0, reading) or (refusal number, None), `write_KIND(reading)` the bytes or None
-where nothing acceptable reads as the reading.
+A reading is a dict with its fields in the paper's order. `read_KIND(bytes)` gives (0, reading) or (refusal number, None),
+`write(kind, reading)` the bytes, or None if nothing that is accepted reads as the reading.
 """
 import calendar
 from datetime import date
 
 FLAG_NAMES = ("unsynchronised", "unverified", "summer", "change", "leap", "antenna")
 FLAG_LETTERS = "#*S!AR"
+YEARS = range(1970, 2070)
+LARGEST_OFFSET = 840
 
 
 class Refused(Exception):
@@ -24,8 +26,20 @@ def reading(year, month, day, weekday, hour, minute, second, offset, flags=""):
     return fields
 
 
+def month_length(year, month):
+    return calendar.monthrange(year, month)[1] if 1 <= month <= 12 else 0
+
+
 def date_exists(year, month, day):
-    return 1 <= month <= 12 and 1 <= day <= calendar.monthrange(max(year, 1), month)[1] if year else False
+    return 1 <= day <= month_length(year, month)
+
+
+def days_since_1970(year, month, day):
+    return (date(year, month, day) - date(1970, 1, 1)).days
+
+
+def weekday_of(year, month, day):
+    return date(year, month, day).isoweekday()
 
 
 def second_60_allowed(hour, minute, offset):
@@ -33,8 +47,15 @@ def second_60_allowed(hour, minute, offset):
     return (60 * hour + minute - offset) % 1440 == 1439
 
 
+def time_exists(hour, minute, second, offset):
+    in_range = hour <= 23 and minute <= 59 and second <= 60
+    return in_range and (second < 60 or second_60_allowed(hour, minute, offset))
+
+
 def full_year(digits):
-    return 1900 + digits if digits >= 70 else 2000 + digits
+    """'70..99 are 19xx, 00..69 are 20xx.' Of a larger number the last two digits count."""
+    last = digits % 100
+    return 1900 + last if last >= 70 else 2000 + last
 
 
 def is_digit(byte):
@@ -81,8 +102,7 @@ def check_clock(r, mismatch=False):
     """5, 6, 7."""
     if not date_exists(r["year"], r["month"], r["day"]):
         raise Refused(5)
-    in_range = r["hour"] <= 23 and r["minute"] <= 59 and r["second"] <= 60
-    if not in_range or (r["second"] == 60 and not second_60_allowed(r["hour"], r["minute"], r["offset"])) or mismatch:
+    if not time_exists(r["hour"], r["minute"], r["second"], r["offset"]) or mismatch:
         raise Refused(6)
     if not 1 <= r["weekday"] <= 7:
         raise Refused(7)
@@ -150,7 +170,7 @@ def read_gps(s):
     check_layout(GPS, s)
     sign, minutes = chr(s[24]), number(s, 28, 2)
     size = 60 * number(s, 25, 2) + minutes
-    if sign not in "+-" or minutes > 59 or size > 840 or (sign == "-" and size == 0):
+    if sign not in "+-" or minutes > 59 or size > LARGEST_OFFSET or (sign == "-" and size == 0):
         raise Refused(8)
     latitude = degrees(s, 41, 2, "NS", 900000)
     longitude = degrees(s, 50, 3, "EW", 1800000)
@@ -170,12 +190,17 @@ def read_elv(s):
     r = reading(full_year(number(s, 0, 2)), number(s, 3, 2), number(s, 6, 2), 1, number(s, 9, 2), number(s, 12, 2),
                 number(s, 15, 2), 120 if flags & 1 else 60, letters)
     if date_exists(r["year"], r["month"], r["day"]):
-        r["weekday"] = date(r["year"], r["month"], r["day"]).isoweekday()
+        r["weekday"] = weekday_of(r["year"], r["month"], r["day"])
     check_clock(r)
     return r
 
 
 READERS = {"standard": read_standard, "pzf": read_pzf, "gps": read_gps, "elv": read_elv}
+
+
+def read(kind, s):
+    """1 for no kind at all, which `kind_of` gives for a length that no kind has."""
+    return READERS[kind](s) if kind else (1, None)
 
 
 def kind_of(s):
@@ -203,9 +228,17 @@ def text_standard(r):
     return clock + letters(r, ("unsynchronised", "unverified")) + zone + announced + "\x03"
 
 
+def text_pzf_clock(r):
+    return clock_text(r, "\x02{dd:02}.{mm:02}.{yy:02}; {w}; {hh:02}:{nn:02}:{ss:02}; ")
+
+
 def text_pzf(r):
-    clock = clock_text(r, "\x02{dd:02}.{mm:02}.{yy:02}; {w}; {hh:02}:{nn:02}:{ss:02}; ")
-    return clock + ("U" if r["offset"] == 0 else " ") + letters(r, FLAG_NAMES) + "\x03"
+    return text_pzf_clock(r) + ("U" if r["offset"] == 0 else " ") + letters(r, FLAG_NAMES) + "\x03"
+
+
+def text_offset(offset):
+    size = abs(offset)
+    return f"{'-' if offset < 0 else '+'}{size // 60 % 100:02}:{size % 60:02}"
 
 
 def text_degrees(value, whole, hemispheres):
@@ -214,12 +247,9 @@ def text_degrees(value, whole, hemispheres):
 
 
 def text_gps(r):
-    size = abs(r["offset"])
-    clock = clock_text(r, "\x02{dd:02}.{mm:02}.{yy:02}; {w}; {hh:02}:{nn:02}:{ss:02}; ")
-    offset = f"{'-' if r['offset'] < 0 else '+'}{size // 60 % 100:02}:{size % 60:02}; "
     flags = letters(r, FLAG_NAMES) + ("L" if r["second"] == 60 else " ")
     place = f"{text_degrees(r['latitude'], 2, 'NS')} {text_degrees(r['longitude'], 3, 'EW')} {r['height']:4}m"
-    return clock + offset + flags + "; " + place + "\x03"
+    return text_pzf_clock(r) + text_offset(r["offset"]) + "; " + flags + "; " + place + "\x03"
 
 
 def text_elv(r):
@@ -233,4 +263,4 @@ TEXTS = {"standard": text_standard, "pzf": text_pzf, "gps": text_gps, "elv": tex
 def write(kind, r):
     """The bytes that read as the reading, None where nothing does: the text is the only candidate."""
     text = TEXTS[kind](r).encode("latin-1")
-    return text if READERS[kind](text) == (0, r) else None
+    return text if read(kind, text) == (0, r) else None

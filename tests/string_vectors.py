@@ -8,11 +8,10 @@ STANDARD = b"\x02D:08.11.06;T:3;U:14.39.39;    \x03"
 PZF = b"\x0208.11.06; 3; 14:39:39;        \x03"
 GPS = b"\x0209.07.93; 5; 08:48:26; +00:00;        ; 49.5736N  11.0280E  373m\x03"
 ELV = b"06-11-08-14-39-39-00\r"
+NO_SUCH_HOUR = b"\x0208.11.06; 3; 24:00:00; U      \x03"
 SAMPLES = {"standard": STANDARD, "pzf": PZF, "gps": GPS, "elv": ELV}
 # A kind by its number: those of the C header, and 4 for a DCF77 minute.
 KINDS = {"standard": 0, "pzf": 1, "gps": 2, "elv": 3, "minute": 4}
-FIELDS = ("year", "month", "day", "weekday", "hour", "minute", "second", "offset", *rules.FLAG_NAMES,
-          "latitude", "longitude", "height", "marks", "sixty")
 
 
 def as_text(s):
@@ -27,7 +26,7 @@ def put(s, at, text):
 
 def fields(r):
     """The numbers of a reading; a flag is 1 or 0."""
-    return " ".join(str(int(r[name])) for name in FIELDS if name in r)
+    return " ".join(str(int(value)) for value in r.values())
 
 
 # What each command answers: the line, and the answer.
@@ -39,13 +38,13 @@ def answer_of(number, r):
 
 
 def read(kind, s):
-    return f"read {KINDS[kind]}: {as_text(s)}", answer_of(*rules.READERS[kind](s))
+    return f"read {KINDS[kind]}: {as_text(s)}", answer_of(*rules.read(kind, s))
 
 
 def tell(s):
     kind = rules.kind_of(s)
-    answer = "refused 1" if kind is None else f"{KINDS[kind]} {answer_of(*rules.READERS[kind](s))}"
-    return f"kind: {as_text(s)}", answer
+    answer = answer_of(*rules.read(kind, s))
+    return f"kind: {as_text(s)}", f"{KINDS[kind]} {answer}" if kind else answer
 
 
 def written(line, text, room, base=0):
@@ -69,7 +68,7 @@ def digits(text):
     s = text.encode()
     if len(s) > 19:
         return f"digits: {text}", "refused 1"
-    bad = [i for i, b in enumerate(s) if not 48 <= b <= 57]
+    bad = [i for i, b in enumerate(s) if not rules.is_digit(b)]
     return f"digits: {text}", f"refused {3 + 100 * bad[0]}" if bad else str(int(text or "0"))
 
 
@@ -96,7 +95,7 @@ def numbers():
 
 def samples():
     """Document 01's own strings first: P1, and the two that the listing program is fed."""
-    lines = [read("gps", GPS), read("standard", STANDARD), read("pzf", b"\x0208.11.06; 3; 24:00:00; U      \x03")]
+    lines = [read("gps", GPS), read("standard", STANDARD), read("pzf", NO_SUCH_HOUR)]
     return lines + [read(k, s) for k, s in SAMPLES.items()]
 
 
@@ -213,7 +212,7 @@ def random_strings():
 
 
 def random_reading(chance, kind):
-    year, month = chance.randrange(1970, 2070), chance.randrange(1, 13)
+    year, month = chance.choice(rules.YEARS), chance.randrange(1, 13)
     flags = "".join(f for f in rules.FLAG_LETTERS if chance.random() < 0.4)
     r = rules.reading(year, month, chance.randrange(1, 29), chance.randrange(1, 8), chance.randrange(24), chance.randrange(60),
                       chance.randrange(60), chance.choice((0, 60, 120)), flags)
@@ -234,7 +233,7 @@ def kinds():
 
 
 def base_reading(kind, **changes):
-    r = rules.READERS[kind](SAMPLES[kind])[1]
+    r = rules.read(kind, SAMPLES[kind])[1]
     r.update(changes)
     return r
 
@@ -299,4 +298,4 @@ def check_against_document():
     assert (number, r["year"], r["weekday"], r["latitude"], r["longitude"], r["offset"]) == (0, 1993, 5, 495736, 110280, 0)
     number, r = rules.read_standard(STANDARD)
     assert (number, r["year"], r["hour"], r["offset"]) == (0, 2006, 14, 60)
-    assert rules.read_pzf(b"\x0208.11.06; 3; 24:00:00; U      \x03")[0] == 6
+    assert rules.read_pzf(NO_SUCH_HOUR)[0] == 6

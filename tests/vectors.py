@@ -13,12 +13,12 @@ from datetime import date, datetime, timedelta
 
 import minute_vectors
 import recording_vectors
+import rules
 import string_vectors
 
 NOT_UNDERSTOOD = "?"
 NO_SUCH_DATE = "refused 5"
 NO_VALID_READING = "refused 23"
-YEARS = range(1970, 2070)
 EPOCH = datetime(1970, 1, 1)
 
 
@@ -35,42 +35,40 @@ def leap(year):
 
 
 def month(year, month):
-    return f"month {year} {month}", str(month_length(year, month))
+    return f"month {year} {month}", str(rules.month_length(year, month))
 
 
 def exists(year, month, day):
-    return f"date {year} {month} {day}", truth(date_exists(year, month, day))
+    return f"date {year} {month} {day}", truth(rules.date_exists(year, month, day))
 
 
 def year(digits):
-    """'70..99 are 19xx, 00..69 are 20xx.' Of a larger number the last two digits count."""
-    last = digits % 100
-    return f"year {digits}", str((1900 if last >= 70 else 2000) + last)
+    return f"year {digits}", str(rules.full_year(digits))
 
 
 def day(year, month, day):
     answer = NO_SUCH_DATE
     if date_known(year, month, day):
-        answer = str((date(year, month, day) - EPOCH.date()).days)
+        answer = str(rules.days_since_1970(year, month, day))
     return f"day {year} {month} {day}", answer
 
 
 def weekday(year, month, day):
     answer = NO_SUCH_DATE
     if date_known(year, month, day):
-        answer = str(date(year, month, day).isoweekday())
+        answer = str(rules.weekday_of(year, month, day))
     return f"weekday {year} {month} {day}", answer
 
 
 def time(hour, minute, second, offset):
-    return f"time {hour} {minute} {second} {offset}", truth(time_exists(hour, minute, second, offset))
+    return f"time {hour} {minute} {second} {offset}", truth(rules.time_exists(hour, minute, second, offset))
 
 
 def unix(year, month, day, weekday, hour, minute, second, offset):
     """The weekday is only held to its range. Second 60 has the instant of the second after it."""
     answer = NO_VALID_READING
-    valid = date_known(year, month, day) and time_exists(hour, minute, second, offset)
-    if valid and 1 <= weekday <= 7 and abs(offset) <= 840:
+    valid = date_known(year, month, day) and rules.time_exists(hour, minute, second, offset)
+    if valid and 1 <= weekday <= 7 and abs(offset) <= rules.LARGEST_OFFSET:
         utc = datetime(year, month, day, hour, minute) - timedelta(minutes=offset)
         answer = str((utc - EPOCH) // timedelta(seconds=1) + second)
     return f"unix {year} {month} {day} {weekday} {hour} {minute} {second} {offset}", answer
@@ -80,38 +78,22 @@ def not_understood(line):
     return line, NOT_UNDERSTOOD
 
 
-# The rules that several commands share.
+# What several commands share.
 
 
 def truth(holds):
     return "1" if holds else "0"
 
 
-def month_length(year, month):
-    return calendar.monthrange(year, month)[1] if 1 <= month <= 12 else 0
-
-
-def date_exists(year, month, day):
-    return 1 <= day <= month_length(year, month)
-
-
 def date_known(year, month, day):
-    return year in YEARS and date_exists(year, month, day)
-
-
-def time_exists(hour, minute, second, offset):
-    """Second 60 is allowed only in the last minute of the UTC day, whatever the offset."""
-    if hour > 23 or minute > 59 or second > 60:
-        return False
-    utc = datetime(2000, 1, 1, hour, minute) - timedelta(minutes=offset)
-    last = (60 * hour + minute - offset) % 1440 == 1439
-    assert last == ((utc.hour, utc.minute) == (23, 59))
-    return second < 60 or last
+    return year in rules.YEARS and rules.date_exists(year, month, day)
 
 
 def last_minute(offset):
-    """The local hour and minute that the last minute of the UTC day has at an offset."""
+    """The local hour and minute that the last minute of the UTC day has at an offset: the one with a second 60."""
     local = datetime(2000, 1, 1, 23, 59) + timedelta(minutes=offset)
+    allowed = [m for m in range(1440) if rules.second_60_allowed(m // 60, m % 60, offset)]
+    assert allowed == [60 * local.hour + local.minute]
     return local.hour, local.minute
 
 
@@ -151,7 +133,7 @@ def dates():
     yield "The last days of months, and the days after them"
     for y in (2000, 2001):
         for m in range(1, 13):
-            last = calendar.monthrange(y, m)[1]
+            last = rules.month_length(y, m)
             yield exists(y, m, last)
             yield exists(y, m, last + 1)
     yield "No such day or month"
@@ -178,7 +160,7 @@ YEAR_NOTES = {
 
 
 def firsts_of_months():
-    for y in YEARS:
+    for y in rules.YEARS:
         yield f"The first of each month of {y}" + YEAR_NOTES.get(y, ", a leap year" if calendar.isleap(y) else "")
         for m in range(1, 13):
             yield day(y, m, 1)
@@ -268,7 +250,7 @@ def refused_unix_times():
 
 def random_unix_times():
     numbers = random.Random(1)
-    first, last = date(1970, 1, 1).toordinal(), date(2069, 12, 31).toordinal()
+    first, last = date(rules.YEARS[0], 1, 1).toordinal(), date(rules.YEARS[-1], 12, 31).toordinal()
 
     def any_day():
         drawn = date.fromordinal(numbers.randint(first, last))

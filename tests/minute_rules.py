@@ -1,4 +1,4 @@
-"""Document 01's rules for one DCF77 minute, in plain Python: written from the paper, sharing nothing with the library."""
+"""Document 01's rules for one DCF77 minute, in plain Python: from the paper, sharing nothing with the library."""
 import rules
 from rules import Refused
 
@@ -34,8 +34,8 @@ def read_minute(m):
     if any(binary(m, at, 4) > 9 for at in DIGITS_OF_FOUR_BITS):
         raise Refused(18)
     flags = "".join(f for f, at in (("R", 15), ("!", 16), ("S", 17), ("A", 19)) if m[at])
-    r = rules.reading(rules.full_year(two_digits(m, "year")), two_digits(m, "month"), two_digits(m, "day"), binary(m, 42, 3),
-                      two_digits(m, "hour"), two_digits(m, "minute"), 0, 120 if m[17] else 60, flags)
+    r = rules.reading(rules.full_year(two_digits(m, "year")), two_digits(m, "month"), two_digits(m, "day"),
+                      binary(m, 42, 3), two_digits(m, "hour"), two_digits(m, "minute"), 0, 120 if m[17] else 60, flags)
     if r["weekday"] == 0:
         raise Refused(7)
     if not rules.date_exists(r["year"], r["month"], r["day"]):
@@ -74,9 +74,11 @@ def write_minute(r):
 
 
 def run_number(m):
-    """'the refusal number; or, accepted, 100 + 32 L + 16 (run of 60) + 8 (offset 120) + 4 antenna + 2 change + 1 leap'"""
+    """'the refusal number; or, accepted, 100 + 32 L + 16 (run of 60) + 8 (offset 120) + 4 antenna + 2 change + 1 leap,
+    where L is local minutes from 1970-01-01 00:00'"""
     number, r = read_minute(m)
     if number:
         return number
     local = 1440 * rules.days_since_1970(r["year"], r["month"], r["day"]) + 60 * r["hour"] + r["minute"]
-    return 100 + 32 * local + 16 * r["sixty"] + 8 * (r["offset"] == 120) + 4 * r["antenna"] + 2 * r["change"] + r["leap"]
+    flags = 16 * r["sixty"] + 8 * (r["offset"] == 120) + 4 * r["antenna"] + 2 * r["change"] + r["leap"]
+    return 100 + 32 * local + flags

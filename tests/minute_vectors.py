@@ -71,7 +71,8 @@ def one_mark_flipped():
 
 def two_marks_flipped():
     """Two of one parity group: the parity holds again."""
-    return [read(flipped(P3, i, j)) for first, last in GROUPS for i in range(first, last + 1) for j in range(i + 1, last + 1)]
+    pairs = ((i, j) for first, last in GROUPS for i in range(first, last + 1) for j in range(i + 1, last + 1))
+    return [read(flipped(P3, i, j)) for i, j in pairs]
 
 
 def zones():
@@ -91,15 +92,16 @@ def digits_above_9():
 
 
 def dates():
-    days = ((31, 6, 2006), (30, 6, 2006), (29, 2, 2000), (29, 2, 2001), (0, 1, 2006), (8, 0, 2006), (8, 13, 2006), (31, 12, 2069), (1, 1, 1970),
-            (39, 1, 2006))
+    days = ((31, 6, 2006), (30, 6, 2006), (29, 2, 2000), (29, 2, 2001), (0, 1, 2006), (8, 0, 2006), (8, 13, 2006),
+            (31, 12, 2069), (1, 1, 1970), (39, 1, 2006))
     lines = [line for d, m, y in days for line in both(made(day=d, month=m, year=y))]
     return lines + [read(made(weekday=w)) for w in range(8)]
 
 
 def times():
     lines = [read(made(minute=n)) for n in (0, 59, 60, 61, 79)] + [read(made(hour=h)) for h in (0, 23, 24, 29, 39)]
-    return lines + [read(made(hour=24, weekday=0)), read(made(day=31, month=6, hour=24)), read(made(day=31, month=6, weekday=0))]
+    return lines + [read(made(hour=24, weekday=0)), read(made(day=31, month=6, hour=24)),
+                    read(made(day=31, month=6, weekday=0))]
 
 
 def lengths():
@@ -108,20 +110,24 @@ def lengths():
 
 
 def unsure_marks():
-    return [read(changed(P3, **{f"p{i}": mark})) for i in (0, 1, 14, 20, 28, 58) for mark in (2, 3, 9)] + [read(P3 + [2]), read(P3 + [3])]
+    lines = [read(changed(P3, **{f"p{i}": mark})) for i in (0, 1, 14, 20, 28, 58) for mark in (2, 3, 9)]
+    return lines + [read(P3 + [2]), read(P3 + [3])]
 
 
 def leap_minutes():
     """60 marks: mark 19 long, mark 59 short, minute 0 announced, and no other condition."""
     leap = made(minute=0, hour=1, day=1, month=1, leap=True, sixty=True)
-    return [line for m in (leap, changed(leap, p19=0), leap[:59] + [1], made(minute=1, hour=1, leap=True, sixty=True), leap[:59],
-                           made(minute=0, hour=17, leap=True, sixty=True)) for line in both(m)]
+    minutes = (leap, changed(leap, p19=0), leap[:59] + [1], made(minute=1, hour=1, leap=True, sixty=True), leap[:59],
+               made(minute=0, hour=17, leap=True, sixty=True))
+    return [line for m in minutes for line in both(m)]
 
 
 def changes_of_zone():
     """Over the change to summer time and back: the zone is that of the announced time."""
-    cases = (dict(day=26, month=3, hour=1, minute=59, change=True), dict(day=26, month=3, hour=3, minute=0, change=True, summer=True, offset=120),
-             dict(day=29, month=10, hour=2, minute=59, change=True, summer=True, offset=120), dict(day=29, month=10, hour=2, minute=0, change=True))
+    cases = (dict(day=26, month=3, hour=1, minute=59, change=True),
+             dict(day=26, month=3, hour=3, minute=0, change=True, summer=True, offset=120),
+             dict(day=29, month=10, hour=2, minute=59, change=True, summer=True, offset=120),
+             dict(day=29, month=10, hour=2, minute=0, change=True))
     return [line for c in cases for line in both(made(**c))]
 
 
@@ -139,9 +145,10 @@ def other_minutes():
 
 def random_minute(chance):
     summer = chance.random() < 0.5
-    return reading(year=chance.choice(rules.YEARS), month=chance.randrange(1, 13), day=chance.randrange(1, 29), weekday=chance.randrange(1, 8),
-                   hour=chance.randrange(24), minute=chance.randrange(60), summer=summer, offset=120 if summer else 60,
-                   change=chance.random() < 0.3, leap=chance.random() < 0.3, antenna=chance.random() < 0.3, marks=chance.randrange(1 << 14))
+    return reading(year=chance.choice(rules.YEARS), month=chance.randrange(1, 13), day=chance.randrange(1, 29),
+                   weekday=chance.randrange(1, 8), hour=chance.randrange(24), minute=chance.randrange(60),
+                   summer=summer, offset=120 if summer else 60, change=chance.random() < 0.3,
+                   leap=chance.random() < 0.3, antenna=chance.random() < 0.3, marks=chance.randrange(1 << 14))
 
 
 def room():
@@ -151,12 +158,14 @@ def room():
 
 
 def refused_readings():
-    changes = (dict(year=1969), dict(year=1970), dict(year=2069), dict(year=2070), dict(year=65535), dict(month=0), dict(month=13), dict(month=255),
-               dict(day=0), dict(day=31), dict(day=40), dict(weekday=0), dict(weekday=8), dict(weekday=5), dict(hour=24), dict(hour=255),
-               dict(minute=60), dict(minute=255), dict(second=1), dict(second=60), dict(offset=0), dict(offset=120), dict(offset=-60),
-               dict(summer=True), dict(summer=True, offset=120), dict(unsynchronised=True), dict(unverified=True), dict(change=True),
-               dict(leap=True), dict(antenna=True), dict(marks=16383), dict(marks=16384), dict(marks=65535), dict(sixty=True),
-               dict(sixty=True, leap=True), dict(sixty=True, leap=True, minute=0), dict(sixty=True, minute=0))
+    changes = (dict(year=1969), dict(year=1970), dict(year=2069), dict(year=2070), dict(year=65535), dict(month=0),
+               dict(month=13), dict(month=255), dict(day=0), dict(day=31), dict(day=40), dict(weekday=0),
+               dict(weekday=8), dict(weekday=5), dict(hour=24), dict(hour=255), dict(minute=60), dict(minute=255),
+               dict(second=1), dict(second=60), dict(offset=0), dict(offset=120), dict(offset=-60), dict(summer=True),
+               dict(summer=True, offset=120), dict(unsynchronised=True), dict(unverified=True), dict(change=True),
+               dict(leap=True), dict(antenna=True), dict(marks=16383), dict(marks=16384), dict(marks=65535),
+               dict(sixty=True), dict(sixty=True, leap=True), dict(sixty=True, leap=True, minute=0),
+               dict(sixty=True, minute=0))
     chance = random.Random(5)
     return [write(reading(**c), 60) for c in changes] + [write(random_minute(chance), 60) for _ in range(60)]
 

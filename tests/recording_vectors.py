@@ -41,7 +41,7 @@ def minute(i):
 
 @lru_cache(maxsize=None)
 def long_tape():
-    """Minutes from the one that announces 8 November 2006 00:00 on, a gap after each; unsure marks where no more fit."""
+    """Minutes from the one that announces 8 November 2006 00:00 on, a gap after each; then unsure marks."""
     tape, i = [], 0
     while True:
         m = minute_rules.write_minute(minute(i))

@@ -1,7 +1,7 @@
 """Document 01's rules for time strings, in plain Python: written from the paper, sharing nothing with the library.
 
-A reading is a dict with its fields in the paper's order. `read_KIND(bytes)` gives (0, reading) or (refusal number, None),
-`write(kind, reading)` the bytes, or None if nothing that is accepted reads as the reading.
+A reading is a dict with its fields in the paper's order. `read_KIND(bytes)` gives (0, reading) or (refusal number,
+None), `write(kind, reading)` the bytes, or None if nothing that is accepted reads as the reading.
 """
 import calendar
 from datetime import date
@@ -20,7 +20,8 @@ class Refused(Exception):
 
 def reading(year, month, day, weekday, hour, minute, second, offset, flags=""):
     """A reading with the flags whose letters of `#*S!AR` are named."""
-    fields = dict(year=year, month=month, day=day, weekday=weekday, hour=hour, minute=minute, second=second, offset=offset)
+    fields = dict(year=year, month=month, day=day, weekday=weekday, hour=hour, minute=minute, second=second,
+                  offset=offset)
     for name, letter in zip(FLAG_NAMES, FLAG_LETTERS):
         fields[name] = letter in flags
     return fields
@@ -204,7 +205,8 @@ def read(kind, s):
 
 
 def kind_of(s):
-    """'66 long is GPS; 32 long is standard if place 1 holds `D`, else PZF; 21 long is ELV; any other length is refused with 1.'"""
+    """'66 long is GPS; 32 long is standard if place 1 holds `D`, else PZF; 21 long is ELV; any other length is refused
+    with 1.'"""
     if len(s) == 66:
         return "gps"
     if len(s) == 32:

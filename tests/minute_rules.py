@@ -1,6 +1,6 @@
 """Document 01's rules for one DCF77 minute, in plain Python: from the paper, sharing nothing with the library."""
 import rules
-from rules import Refused
+from rules import FIRST_YEAR, Refused
 
 NUMBERS = dict(minute=(21, 3), hour=(29, 2), day=(36, 2), month=(45, 1), year=(50, 4))
 DIGITS_OF_FOUR_BITS = (21, 29, 36, 45, 50, 54)
@@ -18,7 +18,7 @@ def two_digits(m, name):
 
 
 @rules.checked
-def read_minute(m):
+def read_minute(m, first_year=FIRST_YEAR):
     """'For a minute: 11, 12, 13, 14, 15, 16, 17, 18, 7, 5, 6, 19'"""
     if len(m) not in (59, 60):
         raise Refused(11)
@@ -34,8 +34,9 @@ def read_minute(m):
     if any(binary(m, at, 4) > 9 for at in DIGITS_OF_FOUR_BITS):
         raise Refused(18)
     flags = "".join(f for f, at in (("R", 15), ("!", 16), ("S", 17), ("A", 19)) if m[at])
-    r = rules.reading(rules.full_year(two_digits(m, "year")), two_digits(m, "month"), two_digits(m, "day"),
-                      binary(m, 42, 3), two_digits(m, "hour"), two_digits(m, "minute"), 0, 120 if m[17] else 60, flags)
+    year = rules.full_year(two_digits(m, "year"), first_year)
+    r = rules.reading(year, two_digits(m, "month"), two_digits(m, "day"), binary(m, 42, 3), two_digits(m, "hour"),
+                      two_digits(m, "minute"), 0, 120 if m[17] else 60, flags)
     if r["weekday"] == 0:
         raise Refused(7)
     if not rules.date_exists(r["year"], r["month"], r["day"]):
@@ -67,16 +68,16 @@ def marks_of(r):
     return [int(mark) for mark in marks] + ([0] if r["sixty"] else [])
 
 
-def write_minute(r):
+def write_minute(r, first_year=FIRST_YEAR):
     """The marks that read as the reading, None where nothing does."""
     m = marks_of(r)
-    return m if read_minute(m) == (0, r) else None
+    return m if read_minute(m, first_year=first_year) == (0, r) else None
 
 
-def run_number(m):
+def run_number(m, first_year=FIRST_YEAR):
     """'the refusal number; or, accepted, 100 + 32 L + 16 (run of 60) + 8 (offset 120) + 4 antenna + 2 change + 1 leap,
     where L is local minutes from 1970-01-01 00:00'"""
-    number, r = read_minute(m)
+    number, r = read_minute(m, first_year=first_year)
     if number:
         return number
     local = 1440 * rules.days_since_1970(r["year"], r["month"], r["day"]) + 60 * r["hour"] + r["minute"]

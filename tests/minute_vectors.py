@@ -3,6 +3,7 @@ import random
 
 import minute_rules
 import rules
+from rules import FIRST_YEAR
 from string_vectors import KINDS, answer_of, fields, written
 
 HEAD = [0] * 18 + [1, 0, 1]
@@ -29,16 +30,16 @@ def flipped(m, *places):
 # What each command answers: the line, and the answer.
 
 
-def read(m):
-    return f"read {KINDS['minute']}: {as_text(m)}", answer_of(*minute_rules.read_minute(m))
+def read(m, first_year=FIRST_YEAR):
+    return f"read {KINDS['minute']}: {as_text(m)}", answer_of(*minute_rules.read_minute(m, first_year=first_year))
 
 
-def run(m):
-    return f"run: {as_text(m)}", str(minute_rules.run_number(m))
+def run(m, first_year=FIRST_YEAR):
+    return f"run: {as_text(m)}", str(minute_rules.run_number(m, first_year))
 
 
-def write(r, room):
-    m = minute_rules.write_minute(r)
+def write(r, room, first_year=FIRST_YEAR):
+    m = minute_rules.write_minute(r, first_year)
     return written(f"write {KINDS['minute']} {fields(r)}", None if m is None else bytes(m), room, base=48)
 
 

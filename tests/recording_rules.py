@@ -3,7 +3,7 @@ from functools import lru_cache
 from operator import ne
 
 import minute_rules
-from rules import Refused
+from rules import FIRST_YEAR, Refused
 
 LONGEST = 100_000
 GAP = 2
@@ -11,13 +11,13 @@ GAP = 2
 run_number = lru_cache(maxsize=None)(minute_rules.run_number)
 
 
-def sheet_of(tape):
+def sheet_of(tape, first_year=FIRST_YEAR):
     """'0 where there is no gap; at a gap the refusal number; or, accepted, 100 + ..'; 10 at the first gap"""
     sheet = [0] * len(tape)
     place = -1
     for gaps_before, run in enumerate(bytes(tape).split(bytes([GAP]))[:-1]):
         place += len(run) + 1
-        sheet[place] = run_number(run) if gaps_before else 10
+        sheet[place] = run_number(run, first_year) if gaps_before else 10
     return sheet
 
 
@@ -27,20 +27,20 @@ def check_lent(tape, sheet):
         raise Refused(20)
 
 
-def outcome_at(tape, place):
+def outcome_at(tape, place, first_year=FIRST_YEAR):
     if len(tape) > LONGEST:
         raise Refused(20)
     if place >= len(tape):
         raise Refused(21)
-    return sheet_of(tape)[place]
+    return sheet_of(tape, first_year)[place]
 
 
-def fill(tape, sheet):
+def fill(tape, sheet, first_year=FIRST_YEAR):
     check_lent(tape, sheet)
-    sheet[:] = sheet_of(tape)
+    sheet[:] = sheet_of(tape, first_year)
 
 
-def correct(tape, sheet, place, mark):
+def correct(tape, sheet, place, mark, first_year=FIRST_YEAR):
     """'For a correction: 20, 21, 22.' Mends the number at the place and at the first gap after it, and counts."""
     check_lent(tape, sheet)
     if place >= len(tape):
@@ -49,7 +49,7 @@ def correct(tape, sheet, place, mark):
         raise Refused(22)
     before = list(sheet)
     tape[place] = mark
-    right = sheet_of(tape)
+    right = sheet_of(tape, first_year)
     for i in (place, next_gap(tape, place)):
         if i is not None:
             sheet[i] = right[i]

@@ -20,10 +20,12 @@ for _ in range(LONGEST):
 
 
 class Tape:
-    """Marks, and how a line shows them: a digit for each, or no text at all for the long tape's first marks."""
+    """Marks, and how a line shows them: a digit for each, or no text at all for the long tape's first marks. The
+    first year is that with which they are read."""
 
-    def __init__(self, marks, text=None):
+    def __init__(self, marks, text=None, first_year=rules.FIRST_YEAR):
         self.marks = list(marks)
+        self.first_year = first_year
         self.text = ": " + minute_vectors.as_text(marks) if text is None else text
 
     def line(self, command, *numbers):
@@ -73,32 +75,32 @@ def answer_of(rule, *arguments):
 
 
 def at(place, tape):
-    return tape.line("at", place), answer_of(recording_rules.outcome_at, tape.marks, place)
+    return tape.line("at", place), answer_of(recording_rules.outcome_at, tape.marks, place, tape.first_year)
 
 
 def fill(count, tape):
     """How many numbers there are, and the sum of the sheet, which held 7 everywhere."""
     sheet = [7] * count
-    answer = answer_of(recording_rules.fill, tape.marks, sheet).replace("None", str(count))
+    answer = answer_of(recording_rules.fill, tape.marks, sheet, tape.first_year).replace("None", str(count))
     return tape.line("fill", count), f"{answer} {total(sheet)}"
 
 
 def corrected(line, tape, sheet, place, mark):
     """How many numbers changed, then the sums of the tape, of the sheet, and of the sheet made anew."""
     marks = list(tape.marks)
-    answer = answer_of(recording_rules.correct, marks, sheet, place, mark)
+    answer = answer_of(recording_rules.correct, marks, sheet, place, mark, tape.first_year)
     sums = f"{total(marks)} {total(sheet)}"
-    answer_of(recording_rules.fill, marks, sheet)
+    answer_of(recording_rules.fill, marks, sheet, tape.first_year)
     return line, f"{answer} {sums} {total(sheet)}"
 
 
 def correct(place, mark, tape):
-    sheet = recording_rules.sheet_of(tape.marks)
+    sheet = recording_rules.sheet_of(tape.marks, tape.first_year)
     return corrected(tape.line("correct", len(sheet), place, mark), tape, sheet, place, mark)
 
 
 def mend(wrong_place, number, place, mark, tape):
-    sheet = recording_rules.sheet_of(tape.marks)
+    sheet = recording_rules.sheet_of(tape.marks, tape.first_year)
     sheet[wrong_place] = number
     return corrected(tape.line("mend", len(sheet), place, mark, wrong_place, number), tape, sheet, place, mark)
 

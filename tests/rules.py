@@ -1,21 +1,26 @@
 """Document 01's rules for time strings, in plain Python: written from the paper, sharing nothing with the library.
 
 A reading is a dict with its fields in the paper's order. `read_KIND(bytes)` gives (0, reading) or (refusal number,
-None), `write(kind, reading)` the bytes, or None if nothing that is accepted reads as the reading.
+place): for 2, 3 and 4 the place of the first such byte, else 0. `write(kind, reading)` gives the bytes, or None if
+nothing that is accepted reads as the reading. A caller may name whether the receiver sends U, and the first of the
+hundred years that two digits mean; SENDS_U and FIRST_YEAR hold if it does not.
 """
 import calendar
 from datetime import date
 
 FLAG_NAMES = ("unsynchronised", "unverified", "summer", "change", "leap", "antenna")
 FLAG_LETTERS = "#*S!AR"
+SENDS_U = True
+FIRST_YEAR = 1970
 YEARS = range(1970, 2070)
 LARGEST_OFFSET = 840
 
 
 class Refused(Exception):
-    def __init__(self, number):
-        super().__init__(number)
+    def __init__(self, number, place=0):
+        super().__init__(number, place)
         self.number = number
+        self.place = place
 
 
 def reading(year, month, day, weekday, hour, minute, second, offset, flags=""):
@@ -53,10 +58,9 @@ def time_exists(hour, minute, second, offset):
     return in_range and (second < 60 or second_60_allowed(hour, minute, offset))
 
 
-def full_year(digits):
-    """'70..99 are 19xx, 00..69 are 20xx.' Of a larger number the last two digits count."""
-    last = digits % 100
-    return 1900 + last if last >= 70 else 2000 + last
+def full_year(digits, first_year=FIRST_YEAR):
+    """The year of the hundred with these last two digits: from 1970 on '70..99 are 19xx, 00..69 are 20xx.'"""
+    return first_year + (digits - first_year) % 100
 
 
 def is_digit(byte):
@@ -86,17 +90,21 @@ GPS = places(
 ELV = places(b"dd-dd-dd-dd-dd-dd-dd\r", d=DIGIT)
 
 
+def refuse_first(number, wrong):
+    """Refuses with the number at the first place that is wrong."""
+    if any(wrong):
+        raise Refused(number, wrong.index(True))
+
+
 def check_layout(layout, s):
     """1, 2, 3, 4: 'Order goes by number over the whole string.'"""
     if len(s) != len(layout):
         raise Refused(1)
     pairs = list(zip(layout, s))
-    if any(isinstance(p, int) and b != p for p, b in pairs):
-        raise Refused(2)
-    if any(p == DIGIT and not is_digit(b) for p, b in pairs):
-        raise Refused(3)
-    if any(isinstance(p, str) and p not in (DIGIT, FREE) and b not in (" " + p).encode() for p, b in pairs):
-        raise Refused(4)
+    flags = [isinstance(p, str) and p not in (DIGIT, FREE) for p in layout]
+    refuse_first(2, [isinstance(p, int) and b != p for p, b in pairs])
+    refuse_first(3, [p == DIGIT and not is_digit(b) for p, b in pairs])
+    refuse_first(4, [flag and b not in (" " + p).encode() for flag, (p, b) in zip(flags, pairs)])
 
 
 def check_clock(r, mismatch=False):
@@ -110,38 +118,40 @@ def check_clock(r, mismatch=False):
 
 
 def checked(read):
-    def run(s):
+    def run(s, **named):
         try:
-            return 0, read(bytes(s))
+            return 0, read(bytes(s), **named)
         except Refused as refused:
-            return refused.number, None
+            return refused.number, refused.place
 
     return run
 
 
 @checked
-def read_standard(s):
+def read_standard(s, sends_u=SENDS_U, first_year=FIRST_YEAR):
+    """A blank x as from a receiver that sends U: document 01 knows no other."""
+    assert sends_u
     check_layout(STANDARD, s)
     u, v, x, y = (chr(b) for b in s[27:31])
     offset = {"U": 0, "S": 120, " ": 60}[x]
     flags = (u + v + ("S" if x == "S" else "") + y).replace(" ", "")
-    r = reading(full_year(number(s, 9, 2)), number(s, 6, 2), number(s, 3, 2), number(s, 14, 1), number(s, 18, 2),
-                number(s, 21, 2), number(s, 24, 2), offset, flags)
+    r = reading(full_year(number(s, 9, 2), first_year), number(s, 6, 2), number(s, 3, 2), number(s, 14, 1),
+                number(s, 18, 2), number(s, 21, 2), number(s, 24, 2), offset, flags)
     check_clock(r)
     return r
 
 
-def pzf_clock(s, offset, flags):
-    return reading(full_year(number(s, 7, 2)), number(s, 4, 2), number(s, 1, 2), number(s, 11, 1), number(s, 14, 2),
-                   number(s, 17, 2), number(s, 20, 2), offset, flags)
+def pzf_clock(s, first_year, offset, flags):
+    return reading(full_year(number(s, 7, 2), first_year), number(s, 4, 2), number(s, 1, 2), number(s, 11, 1),
+                   number(s, 14, 2), number(s, 17, 2), number(s, 20, 2), offset, flags)
 
 
 @checked
-def read_pzf(s):
+def read_pzf(s, first_year=FIRST_YEAR):
     check_layout(PZF, s)
     t, x = chr(s[24]), chr(s[27])
     offset = 0 if t == "U" else 120 if x == "S" else 60
-    r = pzf_clock(s, offset, s[25:31].decode().replace(" ", ""))
+    r = pzf_clock(s, first_year, offset, s[25:31].decode().replace(" ", ""))
     check_clock(r)
     return r
 
@@ -167,7 +177,7 @@ def degrees(s, at, whole, letters, limit):
 
 
 @checked
-def read_gps(s):
+def read_gps(s, first_year=FIRST_YEAR):
     check_layout(GPS, s)
     sign, minutes = chr(s[24]), number(s, 28, 2)
     size = 60 * number(s, 25, 2) + minutes
@@ -176,32 +186,36 @@ def read_gps(s):
     latitude = degrees(s, 41, 2, "NS", 900000)
     longitude = degrees(s, 50, 3, "EW", 1800000)
     height = whole_part(s[60:64])
-    r = pzf_clock(s, -size if sign == "-" else size, s[32:38].decode().replace(" ", ""))
+    r = pzf_clock(s, first_year, -size if sign == "-" else size, s[32:38].decode().replace(" ", ""))
     check_clock(r, mismatch=(s[38:39] == b"L") != (r["second"] == 60))
     return dict(r, latitude=latitude, longitude=longitude, height=height)
 
 
 @checked
-def read_elv(s):
+def read_elv(s, first_year=FIRST_YEAR):
     check_layout(ELV, s)
     flags = number(s, 18, 2)
     if flags > 7:
-        raise Refused(4)
+        raise Refused(4, 19 if s[18:19] == b"0" else 18)
     letters = ("S" if flags & 1 else "") + ("!" if flags & 2 else "") + ("#" if flags & 4 else "")
-    r = reading(full_year(number(s, 0, 2)), number(s, 3, 2), number(s, 6, 2), 1, number(s, 9, 2), number(s, 12, 2),
-                number(s, 15, 2), 120 if flags & 1 else 60, letters)
+    r = reading(full_year(number(s, 0, 2), first_year), number(s, 3, 2), number(s, 6, 2), 1, number(s, 9, 2),
+                number(s, 12, 2), number(s, 15, 2), 120 if flags & 1 else 60, letters)
     if date_exists(r["year"], r["month"], r["day"]):
         r["weekday"] = weekday_of(r["year"], r["month"], r["day"])
     check_clock(r)
     return r
 
 
-READERS = {"standard": read_standard, "pzf": read_pzf, "gps": read_gps, "elv": read_elv}
+READERS = {"pzf": read_pzf, "gps": read_gps, "elv": read_elv}
 
 
-def read(kind, s):
+def read(kind, s, sends_u=SENDS_U, first_year=FIRST_YEAR):
     """1 for no kind at all, which `kind_of` gives for a length that no kind has."""
-    return READERS[kind](s) if kind else (1, None)
+    if kind is None:
+        return 1, 0
+    if kind == "standard":
+        return read_standard(s, sends_u=sends_u, first_year=first_year)
+    return READERS[kind](s, first_year=first_year)
 
 
 def kind_of(s):
@@ -262,7 +276,7 @@ def text_elv(r):
 TEXTS = {"standard": text_standard, "pzf": text_pzf, "gps": text_gps, "elv": text_elv}
 
 
-def write(kind, r):
+def write(kind, r, sends_u=SENDS_U, first_year=FIRST_YEAR):
     """The bytes that read as the reading, None where nothing does: the text is the only candidate."""
     text = TEXTS[kind](r).encode("latin-1")
-    return text if read(kind, text) == (0, r) else None
+    return text if read(kind, text, sends_u, first_year) == (0, r) else None

@@ -3,6 +3,7 @@ import itertools
 import random
 
 import rules
+from rules import FIRST_YEAR, SENDS_U
 
 PRINTABLE = range(32, 127)
 STANDARD = b"\x02D:08.11.06;T:3;U:14.39.39;    \x03"
@@ -34,17 +35,17 @@ def fields(r):
 
 
 def answer_of(number, r):
-    """The last 1 says that what was read is written back as the same bytes."""
+    """The last 1 says that what was read is written back as the same bytes. The place of a refusal is not shown."""
     return f"refused {number}" if number else f"{fields(r)} 1"
 
 
-def read(kind, s):
-    return f"read {KINDS[kind]}: {as_text(s)}", answer_of(*rules.read(kind, s))
+def read(kind, s, sends_u=SENDS_U, first_year=FIRST_YEAR):
+    return f"read {KINDS[kind]}: {as_text(s)}", answer_of(*rules.read(kind, s, sends_u, first_year))
 
 
-def tell(s):
+def tell(s, sends_u=SENDS_U, first_year=FIRST_YEAR):
     kind = rules.kind_of(s)
-    answer = answer_of(*rules.read(kind, s))
+    answer = answer_of(*rules.read(kind, s, sends_u, first_year))
     return f"kind: {as_text(s)}", f"{KINDS[kind]} {answer}" if kind else answer
 
 
@@ -60,8 +61,8 @@ def written(line, text, room, base=0):
     return f"{line} {room}", f"{answer} |{as_text(b + base for b in buffer)}|"
 
 
-def write(kind, r, room):
-    return written(f"write {KINDS[kind]} {fields(r)}", rules.write(kind, r), room)
+def write(kind, r, room, sends_u=SENDS_U, first_year=FIRST_YEAR):
+    return written(f"write {KINDS[kind]} {fields(r)}", rules.write(kind, r, sends_u, first_year), room)
 
 
 def digits(text):

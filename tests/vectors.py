@@ -42,8 +42,8 @@ def exists(year, month, day):
     return f"date {year} {month} {day}", truth(rules.date_exists(year, month, day))
 
 
-def year(digits):
-    return f"year {digits}", str(rules.full_year(digits))
+def year(digits, first_year=rules.FIRST_YEAR):
+    return f"year {digits}", str(rules.full_year(digits, first_year))
 
 
 def day(year, month, day):

@@ -186,7 +186,7 @@ static void make_inputs(void)
         memcpy(tape + i, marks, n);
         i += n;
     }
-    reference_fill_outcomes(tape, DAY, sheet, DAY);
+    reference_fill_outcomes(REFERENCE_FIRST_YEAR, tape, DAY, sheet, DAY);
 }
 
 static double seconds(void)

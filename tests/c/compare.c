@@ -125,10 +125,12 @@ static void compare_kind(const uint8_t *s, size_t n)
 
 static void compare_read(uint8_t kind, const uint8_t *s, size_t n, size_t room)
 {
+    size_t place = 0;
     lend_bytes(&small[0], s, n);
     lend_any(&small[1], 4 * room);
     compare_answers(READ, radio_clock_read(kind, small[0].library, n, (int32_t *)small[1].library, room),
-                    reference_read(kind, small[0].reference, n, (int32_t *)small[1].reference, room));
+                    reference_read(kind, REFERENCE_SENDS_U, REFERENCE_FIRST_YEAR, small[0].reference, n,
+                                   (int32_t *)small[1].reference, room, &place));
     compare_lent(READ, (const struct lent *[]){ &small[0], &small[1] }, 2);
 }
 
@@ -140,8 +142,8 @@ static void compare_write(uint8_t kind, const int32_t *fields, size_t count, siz
     compare_answers(WRITE,
                     radio_clock_write(kind, (int32_t *)small[0].library, count, small[1].library, room,
                                       (size_t *)small[2].library),
-                    reference_write(kind, (int32_t *)small[0].reference, count, small[1].reference, room,
-                                    (size_t *)small[2].reference));
+                    reference_write(kind, REFERENCE_SENDS_U, REFERENCE_FIRST_YEAR, (int32_t *)small[0].reference, count,
+                                    small[1].reference, room, (size_t *)small[2].reference));
     compare_lent(WRITE, (const struct lent *[]){ &small[0], &small[1], &small[2] }, 3);
 }
 
@@ -150,7 +152,8 @@ static void compare_read_minute(const uint8_t *marks, size_t n, size_t room)
     lend_bytes(&small[0], marks, n);
     lend_any(&small[1], 4 * room);
     compare_answers(READ_MINUTE, radio_clock_read_minute(small[0].library, n, (int32_t *)small[1].library, room),
-                    reference_read_minute(small[0].reference, n, (int32_t *)small[1].reference, room));
+                    reference_read_minute(REFERENCE_FIRST_YEAR, small[0].reference, n, (int32_t *)small[1].reference,
+                                          room));
     compare_lent(READ_MINUTE, (const struct lent *[]){ &small[0], &small[1] }, 2);
 }
 
@@ -162,8 +165,8 @@ static void compare_write_minute(const int32_t *fields, size_t count, size_t roo
     compare_answers(WRITE_MINUTE,
                     radio_clock_write_minute((int32_t *)small[0].library, count, small[1].library, room,
                                              (size_t *)small[2].library),
-                    reference_write_minute((int32_t *)small[0].reference, count, small[1].reference, room,
-                                           (size_t *)small[2].reference));
+                    reference_write_minute(REFERENCE_FIRST_YEAR, (int32_t *)small[0].reference, count,
+                                           small[1].reference, room, (size_t *)small[2].reference));
     compare_lent(WRITE_MINUTE, (const struct lent *[]){ &small[0], &small[1], &small[2] }, 3);
 }
 
@@ -179,7 +182,8 @@ static void compare_unix_time(const int32_t *fields, size_t count)
 static void compare_outcome_at(struct lent *marks, size_t place)
 {
     lend_any(&small[2], sizeof(uint32_t));
-    uint8_t answer = reference_outcome_at(marks->reference, marks->length, place, (uint32_t *)small[2].reference);
+    uint8_t answer = reference_outcome_at(REFERENCE_FIRST_YEAR, marks->reference, marks->length, place,
+                                          (uint32_t *)small[2].reference);
     compare_answers(OUTCOME_AT,
                     radio_clock_outcome_at(marks->library, marks->length, place, (uint32_t *)small[2].library), answer);
     compare_lent(OUTCOME_AT, (const struct lent *[]){ marks, &small[2] }, 2);
@@ -194,7 +198,8 @@ static void compare_fill(struct lent *marks, struct lent *outcomes)
 {
     size_t n = marks->length, count = outcomes->length / 4;
     compare_answers(FILL, radio_clock_fill_outcomes(marks->library, n, (uint32_t *)outcomes->library, count),
-                    reference_fill_outcomes(marks->reference, n, (uint32_t *)outcomes->reference, count));
+                    reference_fill_outcomes(REFERENCE_FIRST_YEAR, marks->reference, n,
+                                            (uint32_t *)outcomes->reference, count));
     compare_lent(FILL, (const struct lent *[]){ marks, outcomes }, 2);
 }
 
@@ -207,8 +212,8 @@ static void compare_correct(struct lent *marks, struct lent *outcomes, size_t pl
         exit(2);
     memcpy(before, outcomes->library, outcomes->length);
     lend_any(&small[2], sizeof(size_t));
-    uint8_t answer = reference_correct_mark(marks->reference, n, (uint32_t *)outcomes->reference, count, place, mark,
-                                            (size_t *)small[2].reference);
+    uint8_t answer = reference_correct_mark(REFERENCE_FIRST_YEAR, marks->reference, n, (uint32_t *)outcomes->reference,
+                                            count, place, mark, (size_t *)small[2].reference);
     compare_answers(CORRECT,
                     radio_clock_correct_mark(marks->library, n, (uint32_t *)outcomes->library, count, place, mark,
                                              (size_t *)small[2].library),

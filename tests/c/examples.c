@@ -18,11 +18,34 @@ struct face {
     uint8_t (*correct_mark)(uint8_t *, size_t, uint32_t *, size_t, size_t, uint8_t, size_t *);
 };
 
+/* The reference as document 01 takes receivers and years. */
+
+static uint8_t read_string(uint8_t kind, const uint8_t *s, size_t n, int32_t *fields, size_t room)
+{
+    size_t place = 0;
+    return reference_read(kind, REFERENCE_SENDS_U, REFERENCE_FIRST_YEAR, s, n, fields, room, &place);
+}
+
+static uint8_t read_minute(const uint8_t *marks, size_t n, int32_t *fields, size_t room)
+{
+    return reference_read_minute(REFERENCE_FIRST_YEAR, marks, n, fields, room);
+}
+
+static uint8_t fill_outcomes(const uint8_t *marks, size_t n, uint32_t *outcomes, size_t count)
+{
+    return reference_fill_outcomes(REFERENCE_FIRST_YEAR, marks, n, outcomes, count);
+}
+
+static uint8_t correct_mark(uint8_t *marks, size_t n, uint32_t *outcomes, size_t count, size_t place, uint8_t mark,
+                            size_t *changed)
+{
+    return reference_correct_mark(REFERENCE_FIRST_YEAR, marks, n, outcomes, count, place, mark, changed);
+}
+
 static const struct face faces[] = {
     { "library", radio_clock_read, radio_clock_read_minute, radio_clock_unix_time, radio_clock_fill_outcomes,
       radio_clock_correct_mark },
-    { "reference", reference_read, reference_read_minute, reference_unix_time, reference_fill_outcomes,
-      reference_correct_mark },
+    { "reference", read_string, read_minute, reference_unix_time, fill_outcomes, correct_mark },
 };
 
 static bool passed;

@@ -28,6 +28,7 @@ uint8_t radio_clock_kind(const uint8_t *s, size_t n, uint8_t *kind)
 
 uint8_t radio_clock_read(uint8_t kind, const uint8_t *s, size_t n, int32_t *fields, size_t room)
 {
+    size_t place = 0;
     if (fault() == 3 && room > 0) /* a field changed before the string is accepted */
         fields[0] = 0;
     if (fault() == 4 && kind > 3) /* an unknown kind taken for a known one */
@@ -37,9 +38,9 @@ uint8_t radio_clock_read(uint8_t kind, const uint8_t *s, size_t n, int32_t *fiel
         memcpy(copy, s, 66);
         if (memcmp(s + 41, " 0.0000", 7) == 0)
             copy[48] = 'N';
-        return reference_read(kind, copy, n, fields, room);
+        return reference_read(kind, REFERENCE_SENDS_U, REFERENCE_FIRST_YEAR, copy, n, fields, room, &place);
     }
-    uint8_t error = reference_read(kind, s, n, fields, room);
+    uint8_t error = reference_read(kind, REFERENCE_SENDS_U, REFERENCE_FIRST_YEAR, s, n, fields, room, &place);
     if (fault() == 6 && error == 0 && kind == RADIO_CLOCK_STANDARD && s[29] == ' ') /* a blank taken as UTC */
         fields[7] = 0;
     if (fault() == 7 && error == 5 && n == 32 && kind == 0 && memcmp(s + 3, "31.06", 5) == 0) /* 31 June */
@@ -65,7 +66,7 @@ uint8_t radio_clock_write(uint8_t kind, const int32_t *fields, size_t count, uin
         copy[1] &= 255;
     if (fault() == 14 && count == 17 && kind < 2) /* more fields than the kind has */
         count = 14;
-    uint8_t error = reference_write(kind, copy, count, out, room, written);
+    uint8_t error = reference_write(kind, REFERENCE_SENDS_U, REFERENCE_FIRST_YEAR, copy, count, out, room, written);
     if (fault() == 15 && error == 20) /* a count although refused */
         *written = 0;
     if (fault() == 16 && error == 0 && room > *written) /* a byte after the string */
@@ -77,12 +78,12 @@ uint8_t radio_clock_write(uint8_t kind, const int32_t *fields, size_t count, uin
 
 uint8_t radio_clock_read_minute(const uint8_t *marks, size_t n, int32_t *fields, size_t room)
 {
-    uint8_t error = reference_read_minute(marks, n, fields, room);
+    uint8_t error = reference_read_minute(REFERENCE_FIRST_YEAR, marks, n, fields, room);
     if (fault() == 18 && error == 15) { /* parity without its own bit */
         uint8_t copy[60];
         memcpy(copy, marks, n);
         copy[28] ^= 1;
-        return reference_read_minute(copy, n, fields, room);
+        return reference_read_minute(REFERENCE_FIRST_YEAR, copy, n, fields, room);
     }
     if (fault() == 19 && error == 7) /* 5 before 7 */
         return marks[36] + marks[37] + marks[38] + marks[39] + marks[40] + marks[41] == 0 ? 5 : 7;
@@ -95,7 +96,7 @@ uint8_t radio_clock_read_minute(const uint8_t *marks, size_t n, int32_t *fields,
 
 uint8_t radio_clock_write_minute(const int32_t *fields, size_t count, uint8_t *out, size_t room, size_t *written)
 {
-    uint8_t error = reference_write_minute(fields, count, out, room, written);
+    uint8_t error = reference_write_minute(REFERENCE_FIRST_YEAR, fields, count, out, room, written);
     if (fault() == 22 && error == 0 && room > *written) /* the gap written too */
         out[*written] = 2;
     if (fault() == 23 && error == 23 && count == 16 && fields[14] == 16384) /* 15 bits */
@@ -117,7 +118,7 @@ uint8_t radio_clock_unix_time(const int32_t *fields, size_t count, int64_t *time
 
 uint8_t radio_clock_outcome_at(const uint8_t *marks, size_t n, size_t place, uint32_t *number)
 {
-    uint8_t error = reference_outcome_at(marks, n, place, number);
+    uint8_t error = reference_outcome_at(REFERENCE_FIRST_YEAR, marks, n, place, number);
     if (fault() == 27 && error == 0 && *number == 10) /* the first gap as a short run */
         *number = 11;
     return error;
@@ -125,7 +126,7 @@ uint8_t radio_clock_outcome_at(const uint8_t *marks, size_t n, size_t place, uin
 
 uint8_t radio_clock_fill_outcomes(const uint8_t *marks, size_t n, uint32_t *outcomes, size_t count)
 {
-    uint8_t error = reference_fill_outcomes(marks, n, outcomes, count);
+    uint8_t error = reference_fill_outcomes(REFERENCE_FIRST_YEAR, marks, n, outcomes, count);
     if (fault() == 28 && error == 20 && n == 100001 && count == n) /* one mark too many */
         return 0;
     return error;
@@ -137,15 +138,15 @@ uint8_t radio_clock_correct_mark(uint8_t *marks, size_t n, uint32_t *outcomes, s
     if (fault() == 29 && count == n && place < n && mark <= 3 && n <= 100000) { /* its own place alone */
         uint32_t before = outcomes[place];
         marks[place] = mark;
-        reference_outcome_at(marks, n, place, &outcomes[place]);
+        reference_outcome_at(REFERENCE_FIRST_YEAR, marks, n, place, &outcomes[place]);
         *changed = before != outcomes[place];
         return 0;
     }
-    uint8_t error = reference_correct_mark(marks, n, outcomes, count, place, mark, changed);
+    uint8_t error = reference_correct_mark(REFERENCE_FIRST_YEAR, marks, n, outcomes, count, place, mark, changed);
     if (fault() == 30 && error == 0 && *changed == 2) /* a made-up count */
         *changed = 1;
     if (fault() == 31 && error == 0) /* the whole sheet made anew */
-        reference_fill_outcomes(marks, n, outcomes, count);
+        reference_fill_outcomes(REFERENCE_FIRST_YEAR, marks, n, outcomes, count);
     if (fault() == 32 && error == 22) /* the mark put although refused */
         marks[place] = mark;
     return error;

@@ -161,7 +161,8 @@ size_t make_string(int format, uint8_t *s)
     int32_t f[17];
     size_t n = 0;
     make_fields(format, f);
-    insist(reference_write((uint8_t)format, f, fields_of(format), s, 66, &n), "string");
+    insist(reference_write((uint8_t)format, REFERENCE_SENDS_U, REFERENCE_FIRST_YEAR, f, fields_of(format), s, 66, &n),
+           "string");
     return n;
 }
 
@@ -170,7 +171,7 @@ size_t make_minute(uint8_t *marks)
     int32_t f[16];
     size_t n = 0;
     make_fields(MINUTE, f);
-    insist(reference_write_minute(f, 16, marks, 60, &n), "minute");
+    insist(reference_write_minute(REFERENCE_FIRST_YEAR, f, 16, marks, 60, &n), "minute");
     return n;
 }
 

@@ -2,7 +2,7 @@
  * marks, and nothing is done for speed. */
 #include "reference.h"
 
-#include <stdbool.h>
+#include <assert.h>
 #include <string.h>
 
 enum { STANDARD, PZF, GPS, ELV };
@@ -40,12 +40,14 @@ enum {
 
 /* The reading. */
 
-/* "Two digits of year mean 1970 to 2069: 70..99 are 19xx, 00..69 are 20xx." */
-static int32_t full_year(int32_t digits)
+/* "Two digits of year mean 1970 to 2069: 70..99 are 19xx, 00..69 are 20xx." The year, of the hundred from the first on,
+ * that ends in these digits. */
+static int32_t full_year(int32_t first_year, int32_t digits)
 {
-    if (digits >= 70)
-        return 1900 + digits;
-    return 2000 + digits;
+    int32_t year = first_year;
+    while (year % 100 != digits)
+        year++;
+    return year;
 }
 
 /* "Dates are Gregorian." */
@@ -149,22 +151,32 @@ static const char gps_layout[] = "\00200.00.00; 0; 00:00:00; ?00:00; ???????; ??
 /* "`YY-MM-DD-HH-MM-SS-FF` and CR" */
 static const char elv_layout[] = "00-00-00-00-00-00-00\r";
 
+/* A refusal number, 0 for none, and a place in the string. */
+struct refusal {
+    uint8_t number;
+    size_t place;
+};
+
+static struct refusal refused_at(uint8_t number, size_t place) { return (struct refusal){ number, place }; }
+static struct refusal refused(uint8_t number) { return refused_at(number, 0); }
+static struct refusal accepted(void) { return refused_at(0, 0); }
+
 static bool is_digit(uint8_t byte) { return '0' <= byte && byte <= '9'; }
 
-static uint8_t check_layout(const char *layout, const uint8_t *s, size_t n)
+static struct refusal check_layout(const char *layout, const uint8_t *s, size_t n)
 {
     /* 1: "string length wrong for its kind" */
     if (n != strlen(layout))
-        return 1;
+        return refused(1);
     /* 2: "a fixed byte differs" */
     for (size_t i = 0; i < n; i++)
         if (layout[i] != '0' && layout[i] != '?' && s[i] != (uint8_t)layout[i])
-            return 2;
+            return refused_at(2, i);
     /* 3: "no digit in a digit place" */
     for (size_t i = 0; i < n; i++)
         if (layout[i] == '0' && !is_digit(s[i]))
-            return 3;
-    return 0;
+            return refused_at(3, i);
+    return accepted();
 }
 
 /* The number that so many digits spell. */
@@ -184,44 +196,55 @@ static bool is_one_of(uint8_t byte, const char *letters)
     return false;
 }
 
+/* 4: "a flag place holds another character" than one of those allowed there. */
+static struct refusal check_flags(const uint8_t *s, size_t first, size_t count, const char *const *allowed)
+{
+    for (size_t i = 0; i < count; i++)
+        if (!is_one_of(s[first + i], allowed[i]))
+            return refused_at(4, first + i);
+    return accepted();
+}
+
 /* Day, month and year, the weekday, and hour, minute and second of a Meinberg string, from these places on. */
-static void read_clock(const uint8_t *s, size_t date, size_t weekday, size_t time, int32_t *r)
+static void read_clock(int32_t first_year, const uint8_t *s, size_t date, size_t weekday, size_t time, int32_t *r)
 {
     r[DAY] = number(s + date, 2);
     r[MONTH] = number(s + date + 3, 2);
-    r[YEAR] = full_year(number(s + date + 6, 2));
+    r[YEAR] = full_year(first_year, number(s + date + 6, 2));
     r[WEEKDAY] = number(s + weekday, 1);
     r[HOUR] = number(s + time, 2);
     r[MINUTE] = number(s + time + 3, 2);
     r[SECOND] = number(s + time + 6, 2);
 }
 
-static uint8_t check_clock(const int32_t *r, bool mismatch)
+static struct refusal check_clock(const int32_t *r, bool mismatch)
 {
     /* 5: "no such date" */
     if (!is_date(r[YEAR], r[MONTH], r[DAY]))
-        return 5;
+        return refused(5);
     /* 6: "no such time of day, second 60 rule included"; for GPS "mismatch 6" */
     if (!is_time_of_day(r[HOUR], r[MINUTE], r[SECOND], r[OFFSET]) || mismatch)
-        return 6;
+        return refused(6);
     /* 7: "weekday outside 1..7" */
     if (r[WEEKDAY] < 1 || r[WEEKDAY] > 7)
-        return 7;
-    return 0;
+        return refused(7);
+    return accepted();
 }
 
-static uint8_t read_standard(const uint8_t *s, size_t n, int32_t *r)
+static struct refusal read_standard(bool sends_u, int32_t first_year, const uint8_t *s, size_t n, int32_t *r)
 {
-    uint8_t refusal = check_layout(standard_layout, s, n);
-    if (refusal != 0)
+    /* "Flags at 27..30. u is `#` or blank (unsynchronised); v `*` or blank (unverified); x `U` (offset 0), `S` (offset
+     * 120, summer time) or blank (offset 60); y `!` (change coming), `A` (leap second coming) or blank." That is the
+     * blank of a receiver that sends U; the document knows no other. */
+    static const char *const allowed[] = { "# ", "* ", "US ", "!A " };
+    assert(sends_u);
+    struct refusal refusal = check_layout(standard_layout, s, n);
+    if (refusal.number == 0)
+        refusal = check_flags(s, 27, 4, allowed);
+    if (refusal.number != 0)
         return refusal;
 
-    /* "Flags at 27..30. u is `#` or blank (unsynchronised); v `*` or blank (unverified); x `U` (offset 0), `S` (offset
-     * 120, summer time) or blank (offset 60); y `!` (change coming), `A` (leap second coming) or blank."
-     * 4: "a flag place holds another character" */
     uint8_t u = s[27], v = s[28], x = s[29], y = s[30];
-    if (!is_one_of(u, "# ") || !is_one_of(v, "* ") || !is_one_of(x, "US ") || !is_one_of(y, "!A "))
-        return 4;
     r[UNSYNCHRONISED] = u == '#';
     r[UNVERIFIED] = v == '*';
     r[SUMMER] = x == 'S';
@@ -235,44 +258,38 @@ static uint8_t read_standard(const uint8_t *s, size_t n, int32_t *r)
     else
         r[OFFSET] = 60;
 
-    read_clock(s, 3, 14, 18, r);
+    read_clock(first_year, s, 3, 14, 18, r);
     return check_clock(r, false);
 }
 
-/* "u `#`, v `*`, x `S`, y `!`, z `A`, a `R`, or blank": the letters of the reading's six flags, in its order. */
-static const char flag_letters[] = "#*S!AR";
-
-static bool read_flags(const uint8_t *s, int32_t *r)
+/* The flags uvxyza of PZF and GPS are the reading's six, in its order, each blank if it is not set. */
+static void read_flags(const uint8_t *s, int32_t *r)
 {
-    for (int i = 0; i < 6; i++) {
-        if (s[i] != flag_letters[i] && s[i] != ' ')
-            return false;
-        r[UNSYNCHRONISED + i] = s[i] == flag_letters[i];
-    }
-    return true;
+    for (int i = 0; i < 6; i++)
+        r[UNSYNCHRONISED + i] = s[i] != ' ';
 }
 
-static uint8_t read_pzf(const uint8_t *s, size_t n, int32_t *r)
+static struct refusal read_pzf(int32_t first_year, const uint8_t *s, size_t n, int32_t *r)
 {
-    uint8_t refusal = check_layout(pzf_layout, s, n);
-    if (refusal != 0)
+    /* "Flags at 24..30: t `U`, u `#`, v `*`, x `S`, y `!`, z `A`, a `R`, or blank." */
+    static const char *const allowed[] = { "U ", "# ", "* ", "S ", "! ", "A ", "R " };
+    struct refusal refusal = check_layout(pzf_layout, s, n);
+    if (refusal.number == 0)
+        refusal = check_flags(s, 24, 7, allowed);
+    if (refusal.number != 0)
         return refusal;
-
-    /* "Flags at 24..30": t `U` or blank, then the six. 4: "a flag place holds another character" */
-    uint8_t t = s[24];
-    if (!is_one_of(t, "U ") || !read_flags(s + 25, r))
-        return 4;
 
     /* "t `U` gives offset 0 whatever x is; otherwise x `S` gives 120 and blank 60. x is the summer flag in each
      * case." */
-    if (t == 'U')
+    read_flags(s + 25, r);
+    if (s[24] == 'U')
         r[OFFSET] = 0;
     else if (r[SUMMER] == 1)
         r[OFFSET] = 120;
     else
         r[OFFSET] = 60;
 
-    read_clock(s, 1, 11, 14, r);
+    read_clock(first_year, s, 1, 11, 14, r);
     return check_clock(r, false);
 }
 
@@ -316,47 +333,47 @@ static bool read_degrees(const uint8_t *s, size_t places, uint8_t above, uint8_t
     return true;
 }
 
-static uint8_t read_gps(const uint8_t *s, size_t n, int32_t *r)
+static struct refusal read_gps(int32_t first_year, const uint8_t *s, size_t n, int32_t *r)
 {
-    uint8_t refusal = check_layout(gps_layout, s, n);
-    if (refusal != 0)
-        return refusal;
-
     /* "flags uvxyzab at 32..38". "b must be `L` exactly if the second is 60 (wrong letter 4, mismatch 6)." */
-    uint8_t b = s[38];
-    if (!read_flags(s + 32, r) || !is_one_of(b, "L "))
-        return 4;
+    static const char *const allowed[] = { "# ", "* ", "S ", "! ", "A ", "R ", "L " };
+    struct refusal refusal = check_layout(gps_layout, s, n);
+    if (refusal.number == 0)
+        refusal = check_flags(s, 32, 7, allowed);
+    if (refusal.number != 0)
+        return refusal;
+    read_flags(s + 32, r);
 
     /* 8: "offset sign or size". "Offset at most 14:00 either way, its minutes at most 59; `-00:00` is refused with
      * 8." */
     uint8_t sign = s[24];
     int32_t minutes = number(s + 28, 2), size = 60 * number(s + 25, 2) + minutes;
     if (!is_one_of(sign, "+-") || size > 14 * 60 || minutes > 59 || (sign == '-' && size == 0))
-        return 8;
+        return refused(8);
     r[OFFSET] = sign == '-' ? -size : size;
 
     /* "All faults in 41..63 but the fixed bytes at 43, 49, 53 and 59 are 9." "N or S at 48, E or W at 58" */
     if (!read_degrees(s + 41, 2, 'N', 'S', 900000, &r[LATITUDE]))
-        return 9;
+        return refused(9);
     if (!read_degrees(s + 50, 3, 'E', 'W', 1800000, &r[LONGITUDE]))
-        return 9;
+        return refused(9);
     if (!read_whole_part(s + 60, 4, &r[HEIGHT]))
-        return 9;
+        return refused(9);
 
-    read_clock(s, 1, 11, 14, r);
-    return check_clock(r, (b == 'L') != (r[SECOND] == 60));
+    read_clock(first_year, s, 1, 11, 14, r);
+    return check_clock(r, (s[38] == 'L') != (r[SECOND] == 60));
 }
 
-static uint8_t read_elv(const uint8_t *s, size_t n, int32_t *r)
+static struct refusal read_elv(int32_t first_year, const uint8_t *s, size_t n, int32_t *r)
 {
-    uint8_t refusal = check_layout(elv_layout, s, n);
-    if (refusal != 0)
+    struct refusal refusal = check_layout(elv_layout, s, n);
+    if (refusal.number != 0)
         return refusal;
 
     /* "FF is 00..07, else 4: 1 summer (offset 120, else 60), 2 change coming, 4 unsynchronised." */
     int32_t ff = number(s + 18, 2);
     if (ff > 7)
-        return 4;
+        return refused_at(4, s[18] == '0' ? 19 : 18);
     r[SUMMER] = ff % 2;
     r[CHANGE] = ff / 2 % 2;
     r[UNSYNCHRONISED] = ff / 4;
@@ -365,7 +382,7 @@ static uint8_t read_elv(const uint8_t *s, size_t n, int32_t *r)
     r[ANTENNA] = 0;
     r[OFFSET] = r[SUMMER] == 1 ? 120 : 60;
 
-    r[YEAR] = full_year(number(s, 2));
+    r[YEAR] = full_year(first_year, number(s, 2));
     r[MONTH] = number(s + 3, 2);
     r[DAY] = number(s + 6, 2);
     r[HOUR] = number(s + 9, 2);
@@ -394,19 +411,19 @@ uint8_t reference_kind(const uint8_t *s, size_t n, uint8_t *kind)
 }
 
 /* "The caller names the kind; an unknown kind number from C gives 1." */
-static uint8_t read_kind(uint8_t kind, const uint8_t *s, size_t n, int32_t *r)
+static struct refusal read_kind(uint8_t kind, bool sends_u, int32_t first_year, const uint8_t *s, size_t n, int32_t *r)
 {
     switch (kind) {
     case STANDARD:
-        return read_standard(s, n, r);
+        return read_standard(sends_u, first_year, s, n, r);
     case PZF:
-        return read_pzf(s, n, r);
+        return read_pzf(first_year, s, n, r);
     case GPS:
-        return read_gps(s, n, r);
+        return read_gps(first_year, s, n, r);
     case ELV:
-        return read_elv(s, n, r);
+        return read_elv(first_year, s, n, r);
     default:
-        return 1;
+        return refused(1);
     }
 }
 
@@ -423,13 +440,16 @@ static uint8_t fill_fields(const int32_t *r, size_t count, int32_t *fields, size
     return 0;
 }
 
-uint8_t reference_read(uint8_t kind, const uint8_t *s, size_t n, int32_t *fields, size_t room)
+uint8_t reference_read(uint8_t kind, bool sends_u, int32_t first_year, const uint8_t *s, size_t n, int32_t *fields,
+                       size_t room, size_t *place)
 {
     int32_t r[GPS_FIELDS];
-    uint8_t refusal = read_kind(kind, s, n, r);
-    if (refusal != 0)
-        return refusal;
-    return fill_fields(r, fields_of(kind), fields, room);
+    struct refusal refusal = read_kind(kind, sends_u, first_year, s, n, r);
+    if (refusal.number == 0)
+        refusal.number = fill_fields(r, fields_of(kind), fields, room);
+    if (refusal.number != 0)
+        *place = refusal.place;
+    return refusal.number;
 }
 
 /* Writing strings. "For a writer: 23, 20; it fills the first places it needs and changes nothing after them." */
@@ -473,7 +493,7 @@ static void write_standard(const int32_t *r, uint8_t *s)
 static void write_flags(const int32_t *r, uint8_t *s)
 {
     for (int i = 0; i < 6; i++)
-        s[i] = flag(r[UNSYNCHRONISED + i], flag_letters[i]);
+        s[i] = flag(r[UNSYNCHRONISED + i], "#*S!AR"[i]);
 }
 
 static void write_pzf(const int32_t *r, uint8_t *s)
@@ -540,7 +560,8 @@ static uint8_t fill_bytes(const uint8_t *s, size_t n, uint8_t *out, size_t room,
     return 0;
 }
 
-uint8_t reference_write(uint8_t kind, const int32_t *fields, size_t count, uint8_t *out, size_t room, size_t *written)
+uint8_t reference_write(uint8_t kind, bool sends_u, int32_t first_year, const int32_t *fields, size_t count,
+                        uint8_t *out, size_t room, size_t *written)
 {
     static const char *const layouts[] = { standard_layout, pzf_layout, gps_layout, elv_layout };
     static void (*const writers[])(const int32_t *, uint8_t *) = { write_standard, write_pzf, write_gps, write_elv };
@@ -553,7 +574,7 @@ uint8_t reference_write(uint8_t kind, const int32_t *fields, size_t count, uint8
     size_t n = strlen(layouts[kind]);
     memcpy(s, layouts[kind], n);
     writers[kind](fields, s);
-    if (read_kind(kind, s, n, back) != 0 || !are_same(back, fields, count))
+    if (read_kind(kind, sends_u, first_year, s, n, back).number != 0 || !are_same(back, fields, count))
         return 23;
     return fill_bytes(s, n, out, room, written);
 }
@@ -584,7 +605,7 @@ static bool is_even(const uint8_t *m, size_t first, size_t last)
 }
 
 /* "For a minute: 11, 12, 13, 14, 15, 16, 17, 18, 7, 5, 6, 19" */
-static uint8_t read_marks(const uint8_t *m, size_t n, int32_t *r)
+static uint8_t read_marks(int32_t first_year, const uint8_t *m, size_t n, int32_t *r)
 {
     /* 11: "run is not 59 or 60 marks" */
     if (n != 59 && n != 60)
@@ -617,7 +638,7 @@ static uint8_t read_marks(const uint8_t *m, size_t n, int32_t *r)
     r[DAY] = binary(m, 36, 39) + 10 * binary(m, 40, 41);
     r[WEEKDAY] = binary(m, 42, 44);
     r[MONTH] = binary(m, 45, 48) + 10 * binary(m, 49, 49);
-    r[YEAR] = full_year(binary(m, 50, 53) + 10 * binary(m, 54, 57));
+    r[YEAR] = full_year(first_year, binary(m, 50, 53) + 10 * binary(m, 54, 57));
     /* "A minute announces the time at which the next minute starts, second 0" */
     r[SECOND] = 0;
 
@@ -648,10 +669,10 @@ static uint8_t read_marks(const uint8_t *m, size_t n, int32_t *r)
     return 0;
 }
 
-uint8_t reference_read_minute(const uint8_t *marks, size_t n, int32_t *fields, size_t room)
+uint8_t reference_read_minute(int32_t first_year, const uint8_t *marks, size_t n, int32_t *fields, size_t room)
 {
     int32_t r[MINUTE_FIELDS];
-    uint8_t refusal = read_marks(marks, n, r);
+    uint8_t refusal = read_marks(first_year, marks, n, r);
     if (refusal != 0)
         return refusal;
     return fill_fields(r, MINUTE_FIELDS, fields, room);
@@ -703,14 +724,15 @@ static size_t write_marks(const int32_t *r, uint8_t *m)
     return r[SIXTY_MARKS] == 1 ? 60 : 59;
 }
 
-uint8_t reference_write_minute(const int32_t *fields, size_t count, uint8_t *out, size_t room, size_t *written)
+uint8_t reference_write_minute(int32_t first_year, const int32_t *fields, size_t count, uint8_t *out, size_t room,
+                               size_t *written)
 {
     uint8_t m[60];
     int32_t back[MINUTE_FIELDS];
     if (count != MINUTE_FIELDS)
         return 23;
     size_t n = write_marks(fields, m);
-    if (read_marks(m, n, back) != 0 || !are_same(back, fields, count))
+    if (read_marks(first_year, m, n, back) != 0 || !are_same(back, fields, count))
         return 23;
     return fill_bytes(m, n, out, room, written);
 }
@@ -721,7 +743,7 @@ enum { LONGEST_TAPE = 100000 };
 
 /* "Sheet number: 0 where there is no gap; at a gap the refusal number; or, accepted, 100 + 32 L + 16 (run of 60) + 8
  * (offset 120) + 4 antenna + 2 change + 1 leap, where L is local minutes from 1970-01-01 00:00." */
-static uint32_t sheet_number(const uint8_t *marks, size_t place)
+static uint32_t sheet_number(int32_t first_year, const uint8_t *marks, size_t place)
 {
     int32_t r[MINUTE_FIELDS];
     if (marks[place] != GAP)
@@ -734,7 +756,7 @@ static uint32_t sheet_number(const uint8_t *marks, size_t place)
     /* 10: "gap with no earlier gap on the tape"; "on a tape 10 comes before these" */
     if (start == 0)
         return 10;
-    uint8_t refusal = read_marks(marks + start, place - start, r);
+    uint8_t refusal = read_marks(first_year, marks + start, place - start, r);
     if (refusal != 0)
         return refusal;
 
@@ -743,7 +765,7 @@ static uint32_t sheet_number(const uint8_t *marks, size_t place)
     return 100 + 32 * (uint32_t)local + (uint32_t)flags;
 }
 
-uint8_t reference_outcome_at(const uint8_t *marks, size_t n, size_t place, uint32_t *number)
+uint8_t reference_outcome_at(int32_t first_year, const uint8_t *marks, size_t n, size_t place, uint32_t *number)
 {
     /* 20: "tape over 100,000" */
     if (n > LONGEST_TAPE)
@@ -751,31 +773,31 @@ uint8_t reference_outcome_at(const uint8_t *marks, size_t n, size_t place, uint3
     /* 21: "place at or past the tape's end" */
     if (place >= n)
         return 21;
-    *number = sheet_number(marks, place);
+    *number = sheet_number(first_year, marks, place);
     return 0;
 }
 
-uint8_t reference_fill_outcomes(const uint8_t *marks, size_t n, uint32_t *outcomes, size_t count)
+uint8_t reference_fill_outcomes(int32_t first_year, const uint8_t *marks, size_t n, uint32_t *outcomes, size_t count)
 {
     /* 20: "sheet and tape lengths differ, tape over 100,000" */
     if (count != n || n > LONGEST_TAPE)
         return 20;
     for (size_t i = 0; i < n; i++)
-        outcomes[i] = sheet_number(marks, i);
+        outcomes[i] = sheet_number(first_year, marks, i);
     return 0;
 }
 
 /* Puts the tape's number at a place of the sheet. Returns 1 if another stood there, else 0. */
-static size_t put_right(const uint8_t *marks, uint32_t *outcomes, size_t place)
+static size_t put_right(int32_t first_year, const uint8_t *marks, uint32_t *outcomes, size_t place)
 {
     uint32_t before = outcomes[place];
-    outcomes[place] = sheet_number(marks, place);
+    outcomes[place] = sheet_number(first_year, marks, place);
     return outcomes[place] == before ? 0 : 1;
 }
 
 /* "For a correction: 20, 21, 22." */
-uint8_t reference_correct_mark(uint8_t *marks, size_t n, uint32_t *outcomes, size_t count, size_t place, uint8_t mark,
-                               size_t *changed)
+uint8_t reference_correct_mark(int32_t first_year, uint8_t *marks, size_t n, uint32_t *outcomes, size_t count,
+                               size_t place, uint8_t mark, size_t *changed)
 {
     /* 20: "sheet and tape lengths differ, tape over 100,000" */
     if (count != n || n > LONGEST_TAPE)
@@ -797,9 +819,9 @@ uint8_t reference_correct_mark(uint8_t *marks, size_t n, uint32_t *outcomes, siz
 
     /* The numbers at the place and at the first gap after it are put right, all others stay. "Its count is the
      * number of places at which the sheet after it differs from the sheet before it." */
-    *changed = put_right(marks, outcomes, place);
+    *changed = put_right(first_year, marks, outcomes, place);
     if (gap < n)
-        *changed += put_right(marks, outcomes, gap);
+        *changed += put_right(first_year, marks, outcomes, gap);
     return 0;
 }
 

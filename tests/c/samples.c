@@ -38,7 +38,7 @@ static void make_elv(FILE *file)
     for (size_t i = 0; i < sizeof times / sizeof times[0]; i++) {
         uint8_t s[21];
         size_t n = 0;
-        insist(reference_write(3, times[i], 14, s, sizeof s, &n));
+        insist(reference_write(3, REFERENCE_SENDS_U, REFERENCE_FIRST_YEAR, times[i], 14, s, sizeof s, &n));
         if (i == 2)
             memcpy(s + 9, "24", 2);
         fwrite(s, 1, n, file);
@@ -55,7 +55,7 @@ static void make_marks(FILE *file)
     for (int32_t i = 0; i < 5; i++) {
         int32_t minute = (58 + i) % 60, leap = i <= 2;
         int32_t time[16] = { 2017, 1, 1, 7, i < 2 ? 0 : 1, minute, 0, 60, 0, 0, 0, 0, leap, 0, 1365, i == 2 };
-        insist(reference_write_minute(time, 16, marks, sizeof marks, &n));
+        insist(reference_write_minute(REFERENCE_FIRST_YEAR, time, 16, marks, sizeof marks, &n));
         if (i == 3)
             marks[40] = 3;
         fwrite(marks, 1, n, file);

@@ -12,7 +12,7 @@ run_number = lru_cache(maxsize=None)(minute_rules.run_number)
 
 
 def sheet_of(tape, first_year=FIRST_YEAR):
-    """'0 where there is no gap; at a gap the refusal number; or, accepted, 100 + ..'; 10 at the first gap"""
+    """'0 where there is no gap; at a gap the refusal number', 10 at the first; or the number of the accepted minute."""
     sheet = [0] * len(tape)
     place = -1
     for gaps_before, run in enumerate(bytes(tape).split(bytes([GAP]))[:-1]):

@@ -49,7 +49,7 @@ def weekday_of(year, month, day):
 
 
 def second_60_allowed(hour, minute, offset):
-    """'Second 60 is allowed only where (60 x hour + minute - offset) modulo 1,440 is 1,439.'"""
+    """'Second 60 is allowed only where (60 × hour + minute − offset) modulo 1,440 is 1,439.'"""
     return (60 * hour + minute - offset) % 1440 == 1439
 
 
@@ -97,7 +97,7 @@ def refuse_first(number, wrong):
 
 
 def check_layout(layout, s):
-    """1, 2, 3, 4: 'Order goes by number over the whole string.'"""
+    """The first four of 'Order for text: 1, 2, 3, 4, 8, 9, 5, 6, 7.', each over the whole string before the next."""
     if len(s) != len(layout):
         raise Refused(1)
     pairs = list(zip(layout, s))

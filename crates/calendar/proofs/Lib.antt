@@ -1,5 +1,6 @@
 -- Laws of the definitions, and the main results.
 pub mod SignedLaws
+pub mod WeekdayLaws
 pub mod ValidLaws
 pub mod RepresentableLaws
 pub mod RulesLaws

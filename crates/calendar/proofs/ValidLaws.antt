@@ -5,13 +5,13 @@ use mathlib.Core.Path.{_≡_, refl}
 use mathlib.Core.Bool.{Bool, true, false, cond, _&&_, _||_}
 use lib.Dec.{leb, ltb, eqb}
 use lib.IntN.{pos}
-use borrow.Author.Tests.{leb-true, ltb-true, eqb-true, le-leb}
+use borrow.Author.Tests.{leb-true, ltb-true, eqb-true}
 use Rattle.clock_time.specs.declared.ClockTime.{ClockTime}
 use Rattle.clock_time.proofs.Tests.{both}
 use Rattle.gregorian.specs.Date.{dateExists, fullYear, supportedDate}
 use Rattle.calendar.specs.TimeOfDay.{timeExists, utcMinute}
 use Rattle.calendar.specs.UnixTime.{offsetInRange, isReading}
-use Rattle.gregorian.proofs.DateLaws.{Known, known, supported-exists}
+use Rattle.gregorian.proofs.DateLaws.{Known, known}
 
 pub sixty-most : (second : ℕ) (b : Bool) → (ltb second 60 || eqb second 60 && b) ≡ true → second ≤ 60
 sixty-most second b h = go (ltb second 60) refl h

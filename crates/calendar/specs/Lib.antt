@@ -2,5 +2,6 @@
 pub mod DateAnswer
 pub mod TimeOfDay
 pub mod UnixTime
+pub mod Weekday
 pub mod Representable
 pub mod Rules

@@ -1,10 +1,12 @@
 // Days and weekdays of dates.
+use clock_time::ClockTime;
 use clock_time::Error;
 ghost use mathlib.Core.Path.{_≡_};
 ghost use mathlib.Core.Bool.{true};
 ghost use Prim.Native.Nat.{_+_, _-_, _*_, _/_, _<_};
 ghost use Rattle.gregorian.specs.Date.{supportedDate, daysSinceEpoch, dayNumber, weekdayOf, weekdayOrZero};
 ghost use Rattle.calendar.specs.DateAnswer.{dateAnswer};
+ghost use Rattle.calendar.specs.Weekday.{withWeekday};
 
 // A number worked out from a date, or the error.
 pub enum DateAnswer {
@@ -58,6 +60,16 @@ pub fn weekday_or_zero(year: u16, month: u8, day: u8) -> u8
         return 1 + (days - 7 * weeks(days)) as u8;
     }
     0
+}
+
+// The clock time with the weekday of its date in place of its own.
+pub fn with_weekday(t: ClockTime) -> ClockTime
+    ensures { λ r. ⌜ r ≡ withWeekday t ⌝ }
+{
+    ClockTime {
+        weekday: weekday_or_zero(t.year, t.month, t.day),
+        ..t
+    }
 }
 
 // The weekday, 1 Monday to 7 Sunday. Refuses with NoSuchDate (5) if the date is not one of 1970 to 2069.

@@ -10,6 +10,7 @@ use borrow.Author.Tests.{not-false, eqb-true, eq-eqb}
 use Rattle.clock_time.specs.Errors.{accepted, Check, Passes}
 use Rattle.clock_time.proofs.ErrorLaws.{accepted-passes, passes-accepted}
 use Rattle.clock_time.proofs.ExactLaws.{passes-exactly}
+use Rattle.gregorian.proofs.DateLaws.{supported-exists}
 use Rattle.gregorian.proofs.RulesLaws.{date-exactly}
 use Rattle.calendar.specs.UnixTime.{isReading}
 use Rattle.calendar.specs.Representable.{isRepresentable}
@@ -108,9 +109,9 @@ module _ (m : List ℕ) where
   unfolding announced
   keeps-representable k =
       let t = k .1 in
-      let date = date-exactly _ _ _ .1 (t .date) in
+      let date = supported-exists (twoDigits 50 4 m) _ _ ∙ date-exactly _ _ _ .1 (t .date) in
       let time = time-exactly _ _ _ _ .1 (t .time) in
-      checked-representable (announced m) (twoDigits 50 4 m) refl date time (t .weekday-least) (t .weekday-most)
+      checked-representable (announced m) date time (t .weekday-least) (t .weekday-most)
       (zone-in-range false (long 17 m))
 
   pub read-valid : (a : MinuteTime) → readMinute m ≡ accepted a → isReading (a .time) ≡ true

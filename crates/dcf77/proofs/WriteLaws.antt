@@ -1,5 +1,5 @@
 -- A run of marks is read back as a minute exactly if the minute's fields pass the writer's test.
-use Prim.Native.Nat.{ℕ, _<_, suc-le-suc}
+use Prim.Native.Nat.{ℕ, _<_}
 use mathlib.Core.Path.{_≡_, refl, sym, _∙_}
 use mathlib.Core.Logic.{_↔_}
 use mathlib.Core.Bool.{Bool, true, false, cond, _&&_, false≢true}
@@ -7,14 +7,12 @@ use mathlib.Core.List.{List}
 use lib.Dec.{eqb}
 use lib.IntN.{pos}
 use lib.ListN.{length}
-use borrow.Author.Tests.{eq-eqb, le-leb, lt-ltb}
+use borrow.Author.Tests.{eq-eqb, lt-ltb}
 use Rattle.clock_time.specs.Errors.{Answer, accepted, refused}
 use Rattle.clock_time.specs.Same.{eqℤ}
 use Rattle.clock_time.specs.Writing.{isAccepted, readsBack}
 use Rattle.clock_time.proofs.BackLaws.{back-reads}
 use Rattle.clock_time.proofs.ExactLaws.{same-tests}
-use Rattle.gregorian.proofs.DateLaws.{supported-exists}
-use Rattle.gregorian.proofs.RulesLaws.{date-exactly}
 use Rattle.dcf77.specs.Marks.{long, binary, twoDigits}
 use Rattle.dcf77.specs.Minute.{announced, minuteFields, readMinute, minuteText, sameMinute}
 use Rattle.dcf77.specs.Writable.{fieldsRepresentable, minuteRepresentable}

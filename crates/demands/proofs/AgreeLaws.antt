@@ -33,7 +33,8 @@ use Rattle.time_string.specs.declared.Kind.the-variants.{Standard, Pzf, Gps, El
 use Rattle.dcf77.specs.Lines.{minuteLines}
 use Rattle.demands.specs.Lines.{linesAs, kindLines, outcomeLines, fillLines, correctionLines, instantLines}
 use Rattle.demands.specs.Lines.{dateLines, namedKind, numberCount, readLines, readMinuteLines, feedLines}
-use Rattle.demands.specs.Lines.{textOrder, roomFor}
+use Rattle.demands.specs.Lines.{textOrder, ownNumbers, roomFor}
+use Rattle.demands.proofs.OrderLaws.{positive}
 use Rattle.demands.proofs.Checks.{checksAs, kindChecks, roomCheck, readChecks, readMinuteChecks}
 
 -- ---- tests and what they say
@@ -99,14 +100,21 @@ numbers-append : (ks ls : List Line) → numbersOf (ks ++ ls) ≡ numbersOf ks +
 numbers-append [] ls = refl
 numbers-append (k ∷ ks) ls = ap (λ (ns : List ℕ). k .number ∷ ns) (numbers-append ks ls)
 
-pub as-numbers : (kind : Kind) (s : List ℕ) → numbersOf (linesAs kind s) ≡ textOrder
+pub as-numbers : (kind : Kind) (s : List ℕ) → numbersOf (linesAs kind s) ≡ textOrder (ownNumbers kind)
 as-numbers Standard s = refl
 as-numbers Pzf s = refl
 as-numbers Gps s = refl
 as-numbers Elv s = refl
 
+-- no number of these is 0
+pub text-positive : (kind : Kind) → positive (textOrder (ownNumbers kind)) ≡ true
+text-positive Standard = refl
+text-positive Pzf = refl
+text-positive Gps = refl
+text-positive Elv = refl
+
 pub read-numbers : (n : ℕ) (s : List ℕ) (fields : List ℤ)
-    → numbersOf (readLines n s fields) ≡ 1 ∷ textOrder ++ (20 ∷ [])
+    → numbersOf (readLines n s fields) ≡ 1 ∷ textOrder (ownNumbers (namedKind n)) ++ (20 ∷ [])
 read-numbers n s fields = rw (numbers-append (linesAs (namedKind n) s), as-numbers)
 
 pub read-minute-agrees : (m : List ℕ) (fields : List ℤ) → Agree (readMinuteChecks m fields) (readMinuteLines m fields)

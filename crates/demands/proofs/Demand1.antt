@@ -58,11 +58,12 @@ use Rattle.radio_clock_readings.specs.Minutes.{readMinuteInto}
 use Rattle.feed_state.specs.Feed.{FeedMemory, feedInto}
 use Rattle.demands.specs.Refusals.{tests, RefusesInOrder, RefusesAndKeeps, CallRefusesAndKeeps}
 use Rattle.demands.specs.Accepted.{AcceptsMinuteNumbers}
-use Rattle.demands.specs.Lines.{textOrder, minuteOrder, linesAs, kindLines, writerLines, outcomeLines}
+use Rattle.demands.specs.Lines.{textOrder, ownNumbers, namedKind, minuteOrder, linesAs, kindLines}
+use Rattle.demands.specs.Lines.{writerLines, outcomeLines}
 use Rattle.demands.specs.Lines.{fillLines, correctionLines, instantLines, dateLines, readLines, writeLines}
 use Rattle.demands.specs.Lines.{readMinuteLines, instantLinesOf, feedLines}
 use Rattle.demands.proofs.Checks.{checksAs, readingAs, kindChecks, readChecks, readMinuteChecks}
-use Rattle.demands.proofs.OrderLaws.{ordered, by-tests, keeps, decided, agree-tests}
+use Rattle.demands.proofs.OrderLaws.{ordered, by-tests, keeps, decided, agree-tests, positive-append}
 use Rattle.demands.proofs.OrderLaws.{from-answered, from-left, from-counted}
 use Rattle.demands.proofs.WriterLaws.{settled, writer-keeps}
 use Rattle.demands.proofs.NumbersLaws.{from-decided, minute-settled}
@@ -75,25 +76,25 @@ pub tell-kind : (s : List ℕ) → RefusesInOrder (kindLines s) (1 ∷ []) (kind
 tell-kind s =
     ordered (entry.toldKind s) (kindChecks s) (kindLines s) (agrees.kind-agrees s) (kindOf s) (entry.kind-checks s)
 
-pub read-by-kind : (kind : Kind) (s : List ℕ) → RefusesInOrder (linesAs kind s) textOrder (readAs kind s)
+pub read-by-kind : (kind : Kind) (s : List ℕ) → RefusesInOrder (linesAs kind s) (textOrder (ownNumbers kind)) (readAs kind s)
 read-by-kind kind s =
     rw (← (agrees.as-numbers kind s))
     (ordered (readingAs kind s) (checksAs kind s) (linesAs kind s) (agrees.as-agrees kind s) (readAs kind s)
     (entry.read-as-checks kind s))
 
-pub read-standard : (s : List ℕ) → RefusesInOrder (standardLines s) textOrder (readStandard s)
+pub read-standard : (s : List ℕ) → RefusesInOrder (standardLines s) (textOrder []) (readStandard s)
 unfolding readStandard readText standard
 read-standard s = ordered (standardFields s) (textChecks standard s) _ (agrees.as-agrees Standard s) _ refl
 
-pub read-pzf : (s : List ℕ) → RefusesInOrder (pzfLines s) textOrder (readPzf s)
+pub read-pzf : (s : List ℕ) → RefusesInOrder (pzfLines s) (textOrder []) (readPzf s)
 unfolding readPzf readText pzf
 read-pzf s = ordered (pzfFields s) (textChecks pzf s) _ (agrees.as-agrees Pzf s) _ refl
 
-pub read-gps : (s : List ℕ) → RefusesInOrder (gpsLines s) textOrder (readGps s)
+pub read-gps : (s : List ℕ) → RefusesInOrder (gpsLines s) (textOrder (8 ∷ 9 ∷ [])) (readGps s)
 unfolding readGps readText gps
 read-gps s = ordered (gpsFields s) (textChecks gps s) _ (agrees.as-agrees Gps s) _ refl
 
-pub read-elv : (s : List ℕ) → RefusesInOrder (elvLines s) textOrder (readElv s)
+pub read-elv : (s : List ℕ) → RefusesInOrder (elvLines s) (textOrder []) (readElv s)
 unfolding readElv readText elv
 read-elv s = ordered (elvFields s) (textChecks elv s) _ (agrees.as-agrees Elv s) _ refl
 
@@ -183,9 +184,12 @@ c-kind old s =
 
 -- 1 stands twice, for an unknown kind and for a wrong length
 pub c-read : (n : ℕ) (s : List ℕ) (fields : List ℤ) →
-    CallRefusesAndKeeps (readLines n s fields) (1 ∷ textOrder ++ (20 ∷ [])) fields (left (readInto n s fields))
+    CallRefusesAndKeeps (readLines n s fields) (1 ∷ textOrder (ownNumbers (namedKind n)) ++ (20 ∷ [])) fields
+    (left (readInto n s fields))
 c-read n s fields =
-    from-left (readLines n s fields) (1 ∷ textOrder ++ (20 ∷ [])) refl fields (readInto n s fields)
+    from-left (readLines n s fields) _
+    (positive-append (textOrder (ownNumbers (namedKind n))) (20 ∷ []) (agrees.text-positive (namedKind n)) refl) fields
+    (readInto n s fields)
     (rw (← (agrees.read-numbers n s fields))
     (keeps
     (decided (readChecks n s fields) _ _ _ _ _ (agrees.read-agrees n s fields) (entry.read-checks n s fields))))
@@ -241,10 +245,10 @@ c-feed old s limit = from-left _ _ refl old (feedInto old s limit) (feed old s l
 
 -- ---- functions that no user calls, but that refuse: by their own tests. The feed, `list` and the tests of a date, a
 -- time or a byte refuse nothing: their answers have no case for it.
-pub check-clock : (t : ClockTime) (mismatch : Bool) →
-    RefusesInOrder (tests (clockChecks t mismatch)) (5 ∷ 6 ∷ 7 ∷ []) (checked (clockChecks t mismatch) t)
+pub check-clock : (supported : Bool) (t : ClockTime) (mismatch : Bool) → let ks = clockChecks supported t mismatch in
+    RefusesInOrder (tests ks) (5 ∷ 6 ∷ 7 ∷ []) (checked ks t)
 unfolding clockChecks
-check-clock t mismatch = by-tests t (clockChecks t mismatch) _ refl
+check-clock supported t mismatch = by-tests t (clockChecks supported t mismatch) _ refl
 
 pub time-of : (z : List ℤ) →
     RefusesInOrder (tests (given 23 (not (fitsAll timeRanges z)) ∷ [])) (23 ∷ []) (timeOf z)

@@ -59,7 +59,7 @@ pub position-holds : (s : List ℕ) (g : GpsTime) → readGps s ≡ accepted g �
 unfolding readGps gps gpsFields positionOf
 position-holds s g h =
     let r = read-passes gps s g h in
-    let f = faultless s (r .0 .position) in
+    let f = faultless s (r .0 .own .1 .0) in
     let small = value-small (slice 60 4 s) (f .stand .height-plain) in
     rw (r .1)
     (record {

@@ -10,7 +10,7 @@ use Rattle.calendar.specs.UnixTime.{instantOf}
 use Rattle.dcf77.specs.Minute.{readMinute}
 use Rattle.clock_fields.specs.Ranges.{timeFrom}
 use Rattle.radio_clock_readings.specs.Strings.{kindNumber, kindNumberOf, readNumbered, unixTimeOf}
-use Rattle.demands.specs.Lines.{textOrder, minuteOrder, kindLines, linesAs, unknownKind, namedKind, instantLinesOf}
+use Rattle.demands.specs.Lines.{textOrder, ownNumbers, minuteOrder, kindLines, linesAs, unknownKind, namedKind, instantLinesOf}
 use Rattle.demands.proofs.Checks.{checksAs, readingAs, kindCheck, kindChecks}
 use Rattle.demands.proofs.EntryLaws as entry
 use Rattle.demands.proofs.AgreeLaws as agrees
@@ -26,7 +26,8 @@ kind-0 s =
 
 pub read-0 : (n : ℕ) (s : List ℕ) → readNumbered n s ≡ refused 0 → ⊥
 read-0 n s =
-    never-0 (unknownKind n ∷ linesAs (namedKind n) s) (1 ∷ textOrder) refl (readNumbered n s)
+    never-0 (unknownKind n ∷ linesAs (namedKind n) s) (1 ∷ textOrder (ownNumbers (namedKind n)))
+    (agrees.text-positive (namedKind n)) (readNumbered n s)
     (rw (← (agrees.as-numbers (namedKind n) s))
     (ordered (readingAs (namedKind n) s) (kindCheck n ∷ checksAs (namedKind n) s)
     (unknownKind n ∷ linesAs (namedKind n) s)

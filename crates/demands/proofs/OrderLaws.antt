@@ -142,6 +142,11 @@ status-refused : {A : Type 0} (a : Answer A) → (statusOf a ≡ 0 → ⊥) → 
 status-refused (accepted a) none = absurd (none refl)
 status-refused (refused k) none = (k, refl)
 
+pub positive-append : (ns ms : List ℕ) → positive ns ≡ true → positive ms ≡ true → positive (ns ++ ms) ≡ true
+positive-append [] ms p q = q
+positive-append (n ∷ ns) ms p q =
+    let w = both (not (eqb n 0)) (positive ns) p in simp (w .0, positive-append ns ms (w .1) q)
+
 gives-positive : (ls : List Line) (n : ℕ) → positive (numbersOf ls) ≡ true → Gives ls n → n ≡ 0 → ⊥
 gives-positive [] n p h e = h
 gives-positive (l ∷ ls) n p (inl h) e = eqb-false (l .number) 0 (not-true _ (both _ _ p .0)) (h .1 ∙ e)

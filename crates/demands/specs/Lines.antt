@@ -22,9 +22,16 @@ use Rattle.clock_numbers.specs.Numbers.{timeNumbers}
 use Rattle.demands.specs.Accepted.{AcceptsNumbers}
 
 -- ---- the orders
--- "Order for text: 1, 2, 3, 4, 8, 9, 5, 6, 7." (01, Refusal numbers)
-abbrev pub textOrder : List ℕ
-textOrder = 1 ∷ 2 ∷ 3 ∷ 4 ∷ 8 ∷ 9 ∷ 5 ∷ 6 ∷ 7 ∷ []
+-- "Order for text: 1, 2, 3, 4, 8, 9, 5, 6, 7." (01, Refusal numbers), where 8 and 9 are the kind's own numbers
+abbrev pub textOrder : List ℕ → List ℕ
+textOrder own = 1 ∷ 2 ∷ 3 ∷ 4 ∷ own ++ (5 ∷ 6 ∷ 7 ∷ [])
+
+-- 8: "offset sign or size"; 9: "position" (01, Refusal numbers): only GPS strings have either
+abbrev pub ownNumbers : Kind → List ℕ
+ownNumbers Standard = []
+ownNumbers Pzf = []
+ownNumbers Gps = 8 ∷ 9 ∷ []
+ownNumbers Elv = []
 
 -- "For a minute: 11, 12, 13, 14, 15, 16, 17, 18, 7, 5, 6, 19" (01, Refusal numbers)
 abbrev pub minuteOrder : List ℕ

@@ -9,7 +9,8 @@ ghost use Rattle.clock_numbers.specs.Numbers.{minuteNumbers};
 ghost use Rattle.radio_clock_readings.specs.Strings.{kindNumber, readingNumbers};
 ghost use Rattle.feed_state.specs.Feed.{feedMemory};
 ghost use Rattle.demands.specs.Refusals.{CallRefusesAndKeeps};
-ghost use Rattle.demands.specs.Lines.{textOrder, minuteOrder, kindLines, readLines, writeLines, writerLines};
+ghost use Rattle.demands.specs.Lines.{textOrder, ownNumbers, namedKind, minuteOrder, kindLines, readLines};
+ghost use Rattle.demands.specs.Lines.{writeLines, writerLines};
 ghost use Rattle.demands.specs.Lines.{readMinuteLines, instantLinesOf, feedLines};
 ghost use Rattle.demands.specs.Accepted.{TellsKind, AcceptsNumbered, AcceptsNumbers, AcceptsMinuteNumbers};
 ghost use Rattle.demands.specs.Instant.{InstantOfNumbers};
@@ -30,7 +31,8 @@ fn radio_clock_kind(s: &[u8], kind: &mut u8) -> u8
 
 fn radio_clock_read(kind: u8, s: &[u8], fields: &mut [i32]) -> u8
     ensures demand_1 { λ r. ⌜
-        CallRefusesAndKeeps (readLines kind (now (s .entry)) (now (fields .entry))) (1 ∷ textOrder ++ (20 ∷ []))
+        CallRefusesAndKeeps (readLines kind (now (s .entry)) (now (fields .entry)))
+        (1 ∷ textOrder (ownNumbers (namedKind kind)) ++ (20 ∷ []))
         (now (fields .entry)) (called r (now (fields .exit)))
         ⌝ }
     ensures demand_2 { λ r. ⌜

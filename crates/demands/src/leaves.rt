@@ -10,15 +10,16 @@ use listing_lines::Totals;
 use meinberg_gps::GpsAnswer;
 ghost use Prim.Native.Nat.{_^_};
 ghost use mathlib.Core.Path.{_≡_};
-ghost use mathlib.Core.Bool.{not, _&&_};
+ghost use mathlib.Core.Bool.{not, _&&_, false};
 ghost use mathlib.Core.List.{[], _∷_};
 ghost use lib.Dec.{leb, ltb};
 ghost use lib.ListN.{length};
 ghost use Rattle.clock_time.specs.Errors.{given, checked};
 ghost use Rattle.clock_time.specs.Writing.{written};
+ghost use Rattle.calendar.specs.Weekday.{withWeekday};
 ghost use Rattle.calendar.specs.UnixTime.{isReading};
 ghost use Rattle.decimal.specs.Decimal.{firstNonDigit, digits, digitsAnswer, readDigits, writeDigits};
-ghost use Rattle.layout.specs.Text.{clockChecks, readAnswer};
+ghost use Rattle.layout.specs.Text.{supportedDay, clockChecks, readAnswer};
 ghost use Rattle.gps_position.specs.Position.{positionAnswer};
 ghost use Rattle.gps_position.specs.Rules.{PositionRules, SaysPosition, positionLines};
 ghost use Rattle.meinberg_gps.specs.Gps.{gpsAnswer};
@@ -59,10 +60,21 @@ fn write_marks(fields: &[i32], out: &mut [u8]) -> WriteAnswer
 }
 
 fn check_clock(t: ClockTime, mismatch: bool) -> ReadAnswer
-    ensures demand_1 { λ r. ⌜ RefusesInOrder (tests (clockChecks t mismatch)) (5 ∷ 6 ∷ 7 ∷ []) (readAnswer r) ⌝ }
-    ensures answer { λ r. ⌜ readAnswer r ≡ checked (clockChecks t mismatch) t ⌝ }
+    ensures demand_1 { λ r. ⌜
+        RefusesInOrder (tests (clockChecks (supportedDay t) t mismatch)) (5 ∷ 6 ∷ 7 ∷ []) (readAnswer r)
+        ⌝ }
+    ensures answer { λ r. ⌜ readAnswer r ≡ checked (clockChecks (supportedDay t) t mismatch) t ⌝ }
 {
     layout::check_clock(t, mismatch)
+}
+
+fn check_without_weekday(t: ClockTime) -> ReadAnswer
+    ensures demand_1 { λ r. ⌜
+        RefusesInOrder (tests (clockChecks (supportedDay t) (withWeekday t) false)) (5 ∷ 6 ∷ 7 ∷ []) (readAnswer r)
+        ⌝ }
+    ensures answer { λ r. ⌜ readAnswer r ≡ checked (clockChecks (supportedDay t) (withWeekday t) false) (withWeekday t) ⌝ }
+{
+    layout::check_without_weekday(t)
 }
 
 fn read_position(s: &[u8]) -> PositionAnswer

@@ -21,7 +21,7 @@ ghost use Rattle.elv_dcf7000.specs.Accepts.{AcceptsElv};
 ghost use Rattle.elv_dcf7000.specs.Lines.{elvLines};
 ghost use Rattle.time_string.specs.Kind.{kindAnswer, timeAnswer};
 ghost use Rattle.demands.specs.Refusals.{RefusesInOrder, RefusesAndKeeps};
-ghost use Rattle.demands.specs.Lines.{textOrder, kindLines, linesAs, writerLines};
+ghost use Rattle.demands.specs.Lines.{textOrder, ownNumbers, kindLines, linesAs, writerLines};
 ghost use Rattle.demands.specs.Accepted.{TellsKind, AcceptsAs};
 ghost use Rattle.demands.specs.Exactly.{ReadsExactly, WritesExactly};
 
@@ -33,35 +33,35 @@ fn kind_of(s: &[u8]) -> KindAnswer
 }
 
 fn read(kind: Kind, s: &[u8]) -> TimeAnswer
-    ensures demand_1 { λ r. ⌜ RefusesInOrder (linesAs kind (now (s .entry))) textOrder (timeAnswer r) ⌝ }
+    ensures demand_1 { λ r. ⌜ RefusesInOrder (linesAs kind (now (s .entry))) (textOrder (ownNumbers kind)) (timeAnswer r) ⌝ }
     ensures demand_2 { λ r. ⌜ ReadsExactly (AcceptsAs kind (now (s .entry))) (timeAnswer r) ⌝ }
 {
     time_string::read(kind, s)
 }
 
 fn read_standard(s: &[u8]) -> ReadAnswer
-    ensures demand_1 { λ r. ⌜ RefusesInOrder (standardLines (now (s .entry))) textOrder (readAnswer r) ⌝ }
+    ensures demand_1 { λ r. ⌜ RefusesInOrder (standardLines (now (s .entry))) (textOrder []) (readAnswer r) ⌝ }
     ensures demand_2 { λ r. ⌜ ReadsExactly (AcceptsStandard (now (s .entry))) (readAnswer r) ⌝ }
 {
     meinberg_standard::read_standard(s)
 }
 
 fn read_pzf(s: &[u8]) -> ReadAnswer
-    ensures demand_1 { λ r. ⌜ RefusesInOrder (pzfLines (now (s .entry))) textOrder (readAnswer r) ⌝ }
+    ensures demand_1 { λ r. ⌜ RefusesInOrder (pzfLines (now (s .entry))) (textOrder []) (readAnswer r) ⌝ }
     ensures demand_2 { λ r. ⌜ ReadsExactly (AcceptsPzf (now (s .entry))) (readAnswer r) ⌝ }
 {
     meinberg_pzf::read_pzf(s)
 }
 
 fn read_gps(s: &[u8]) -> GpsAnswer
-    ensures demand_1 { λ r. ⌜ RefusesInOrder (gpsLines (now (s .entry))) textOrder (gpsAnswer r) ⌝ }
+    ensures demand_1 { λ r. ⌜ RefusesInOrder (gpsLines (now (s .entry))) (textOrder (8 ∷ 9 ∷ [])) (gpsAnswer r) ⌝ }
     ensures demand_2 { λ r. ⌜ ReadsExactly (AcceptsGps (now (s .entry))) (gpsAnswer r) ⌝ }
 {
     meinberg_gps::read_gps(s)
 }
 
 fn read_elv(s: &[u8]) -> ReadAnswer
-    ensures demand_1 { λ r. ⌜ RefusesInOrder (elvLines (now (s .entry))) textOrder (readAnswer r) ⌝ }
+    ensures demand_1 { λ r. ⌜ RefusesInOrder (elvLines (now (s .entry))) (textOrder []) (readAnswer r) ⌝ }
     ensures demand_2 { λ r. ⌜ ReadsExactly (AcceptsElv (now (s .entry))) (readAnswer r) ⌝ }
 {
     elv_dcf7000::read_elv(s)

@@ -3,69 +3,35 @@
 use Prim.Native.Nat.{ℕ, _+_, _*_, _%_, _≤_, _<_}
 use native.Mathlib.Omega.{arith}
 use native.Mathlib.Decide.{ℕ-discrete, decLt}
-use mathlib.Core.Path.{_≡_, refl, sym, ap, _∙_}
-use mathlib.Core.Bool.{Bool, true, false, not, cond, _&&_, _||_, Bool·beq}
+use mathlib.Core.Path.{_≡_, refl, sym, _∙_}
+use mathlib.Core.Bool.{Bool, true, false, not, _&&_, _||_, Bool·beq}
 use mathlib.Core.List.{List}
 use lib.Dec.{eqb, leb, ltb, eqb→eq}
 use lib.ListN.{getD}
 use mir.Val.{boolByte}
-use borrow.Author.Tests.{eq-eqb, ne-eqb, eqb-true, leb-true, le-leb, lt-ltb, le-ltb, ltb-false, not-true}
-use Rattle.clock_time.specs.Errors.{Answer, accepted, refused, checked}
+use borrow.Author.Tests.{eq-eqb, ne-eqb, eqb-true, leb-true, lt-ltb, le-ltb, ltb-false, not-true}
+use Rattle.calendar.specs.Weekday.{withWeekday}
+use Rattle.clock_time.specs.Errors.{Answer, refused, checked}
 use Rattle.clock_time.specs.Same.{eqℤ, sameFields, sameTime}
 use Rattle.clock_time.specs.declared.ClockTime.{ClockTime}
 use Rattle.clock_time.proofs.SameLaws.{eqℤ-refl, eqb-refl, beq-refl, beq-true, sameTime-true}
 use Rattle.clock_time.proofs.Tests.{both, below-at}
 use Rattle.clock_time.specs.Lists.{ascii}
-use Rattle.gregorian.specs.Date.{dateExists, fullYear, supportedDate, weekdayNumber, weekdayOrZero}
-use Rattle.calendar.specs.TimeOfDay.{timeExists}
+use Rattle.gregorian.specs.Date.{weekdayOrZero}
 use Rattle.calendar.specs.Representable.{isRepresentable}
 use Rattle.calendar.proofs.ValidLaws.{zone-in-range}
-use Rattle.gregorian.proofs.DateLaws.{supported-exists}
 use Rattle.decimal.specs.Decimal.{digits, value, valueFrom}
 use Rattle.decimal.proofs.DecimalLaws.{digit-range, digit-written, value-digits}
 use Rattle.layout.specs.Layout.{allowed, fitsFrom, FitsLayout, number}
-use Rattle.layout.specs.Text.{clockChecks}
+use Rattle.layout.specs.Text.{supportedDay, clockChecks}
 use Rattle.layout.proofs.LayoutLaws.{tested-fits, digit-place}
 use Rattle.layout.proofs.TextLaws.{read-fitting}
 use Rattle.layout.proofs.AcceptLaws.{PassesText}
 use Rattle.layout.proofs.WriteLaws.{restore-fits, digits-number, digits-year}
 use Rattle.layout.proofs.DecideLaws.{numbers-written, DecidesClock}
 use Rattle.elv_dcf7000.specs.Elv.{elvLayout, elvFlags, elvFlagFault, summerIn, changeIn, unsynchronisedIn}
-use Rattle.elv_dcf7000.specs.Elv.{elvOffset, sentFields, withWeekday, elvFields, flagSum, elvText, elvRepresentable}
+use Rattle.elv_dcf7000.specs.Elv.{elvOffset, sentFields, elvFields, flagSum, elvText, elvRepresentable}
 use Rattle.elv_dcf7000.specs.Elv.{elv, readElv}
-
--- ---- the weekday
-pub weekday-range : (y m d : ℕ) → supportedDate y m d ≡ true
-    → (leb 1 (weekdayOrZero y m d) && leb (weekdayOrZero y m d) 7) ≡ true
-unfolding weekdayOrZero weekdayNumber
-weekday-range y m d h =
-    let first : 1 ≤ weekdayNumber y m d = omega arith in
-    let last : weekdayNumber y m d ≤ 7 = omega arith in
-    rw h (rw (le-leb 1 (weekdayNumber y m d) first, le-leb (weekdayNumber y m d) 7 last))
-
--- the answer with its date's weekday
-abbrev pub onItsDay : Answer ClockTime → Answer ClockTime
-onItsDay (accepted t) = accepted (withWeekday t)
-onItsDay (refused k) = refused k
-
--- whatever weekday a clock time passed the checks with, it passes them with its date's
-day-checks : (t : ClockTime) (n : ℕ) → t .year ≡ fullYear n → t .weekday ≡ 1
-    → onItsDay (checked (clockChecks t false) t) ≡ checked (clockChecks (withWeekday t) false) (withWeekday t)
-unfolding clockChecks withWeekday
-day-checks t n year weekday-least =
-    go (dateExists (t .year) (t .month) (t .day)) (timeExists (t .hour) (t .minute) (t .second) (t .«utc_offset»)) refl
-  where
-    go : (d x : Bool) → dateExists (t .year) (t .month) (t .day) ≡ d
-        → onItsDay (cond (not d) (refused 5) (cond (not x || false) (refused 6)
-        (cond (not (leb 1 (t .weekday) && leb (t .weekday) 7)) (refused 7) (accepted t))))
-        ≡ cond (not d) (refused 5) (cond (not x || false) (refused 6)
-        (cond (not (leb 1 (weekdayOrZero (t .year) (t .month) (t .day))
-        && leb (weekdayOrZero (t .year) (t .month) (t .day)) 7)) (refused 7) (accepted (withWeekday t))))
-    go false x e = refl
-    go true false e = refl
-    go true true e =
-        let known = rw (← year) at (supported-exists n (t .month) (t .day)) in
-        rw (weekday-least, weekday-range (t .year) (t .month) (t .day) (known ∙ e))
 
 -- ---- the flags
 module _ {s : List ℕ} (h : FitsLayout elvLayout s) where
@@ -101,11 +67,12 @@ module _ {s : List ℕ} (h : FitsLayout elvLayout s) where
   unfolding readElv elv
   read-flags k = read-fitting elv s h ∙ simp k
 
-  pub read-clock : elvFlagFault s ≡ false → (a : Answer ClockTime) → a ≡ checked (clockChecks (sentFields s) false)
-      (sentFields s) → onItsDay a ≡ readElv s
-  unfolding readElv elv elvFields sentFields
-  read-clock k a e =
-      ap onItsDay e ∙ day-checks (sentFields s) (number 2 0 s) refl refl ∙ sym (read-fitting elv s h ∙ simp k)
+  pub read-clock : elvFlagFault s ≡ false → (a : Answer ClockTime)
+      → a ≡ checked (clockChecks (supportedDay (sentFields s)) (withWeekday (sentFields s)) false)
+      (withWeekday (sentFields s))
+      → a ≡ readElv s
+  unfolding readElv elv elvFields withWeekday supportedDay
+  read-clock k a e = e ∙ sym (read-fitting elv s h ∙ simp k)
 
 -- a test that passes for every three flags
 either-way : (Bool → Bool) → Bool
@@ -212,7 +179,6 @@ pub decides : DecidesClock elvLayout elvFlagFault elvFields elvText elvRepresent
 unfolding elvFields withWeekday sentFields elvOffset
 decides =
     record {
-      year = λ s. (number 2 0 s, refl);
       offset = λ s. zone-in-range false (summerIn (elvFlags s));
       read-representable = fields-representable;
       fits = text-fits;

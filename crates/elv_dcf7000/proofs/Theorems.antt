@@ -16,6 +16,7 @@ use Rattle.calendar.specs.UnixTime.{isReading}
 use Rattle.calendar.specs.Representable.{isRepresentable}
 use Rattle.calendar.specs.Rules.{ReadingRules}
 use Rattle.calendar.proofs.ValidLaws.{valid}
+use Rattle.layout.specs.Text.{writtenClock}
 use Rattle.layout.specs.Picture.{AsDrawn}
 use Rattle.layout.specs.Says.{twoDigitsAt}
 use Rattle.layout.proofs.DecideLaws.{clock-valid, clock-written}
@@ -30,7 +31,7 @@ use Rattle.elv_dcf7000.proofs.ElvLaws.{elv-back, decides}
 -- demand 2: acceptance, the fields read, and what is written
 pub faithful : Faithful AcceptsElv readElv writeElv
 unfolding readElv writeElv elv
-faithful = text.faithful elv AcceptsElv (text.exactly in-words) elv-back sameTime-refl sameTime-true
+faithful = text.faithful (writtenClock elv elvText) AcceptsElv (text.exactly in-words) elv-back sameTime-refl sameTime-true
 
 -- its first sentence by itself, with "FF is 00..07" (01, Meinberg and ELV strings)
 pub read-elv-exactly : (s : List ℕ) (t : ClockTime) → (readElv s ≡ accepted t)

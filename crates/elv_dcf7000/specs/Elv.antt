@@ -10,9 +10,10 @@ use Rattle.clock_time.specs.Writing.{Written}
 use Rattle.clock_time.specs.declared.ClockTime.{ClockTime}
 use Rattle.clock_time.specs.Lists.{ascii}
 use Rattle.gregorian.specs.Date.{fullYear, weekdayOrZero}
+use Rattle.calendar.specs.Weekday.{withWeekday}
 use Rattle.decimal.specs.Decimal.{digits}
 use Rattle.layout.specs.Layout.{digit, places, number}
-use Rattle.layout.specs.Text.{Format, clockFormat, readText, writeText}
+use Rattle.layout.specs.Text.{Format, clockFormat, writtenClock, readText, writeText}
 
 -- "`YY-MM-DD-HH-MM-SS-FF` and CR. The pattern in 002 has seven dashes; the layout has six and holds." (01, Meinberg and
 -- ELV strings)
@@ -46,14 +47,14 @@ unsynchronisedIn flags = eqb (flags / 4 % 2) 1
 unfoldable pub elvOffset : Bool → ℤ
 elvOffset summer = cond summer (pos 120) (pos 60)
 
--- the fields that are sent, with Monday for a weekday
+-- the fields that are sent, with 0 for a weekday
 unfoldable pub sentFields : List ℕ → ClockTime
 sentFields s =
     record {
       year = fullYear (number 2 0 s);
       month = number 2 3 s;
       day = number 2 6 s;
-      weekday = 1;
+      weekday = 0;
       hour = number 2 9 s;
       minute = number 2 12 s;
       second = number 2 15 s;
@@ -66,28 +67,7 @@ sentFields s =
       «alternate_antenna» = false;
     }
 
--- "No weekday is sent; it is worked out from the date." (01, Meinberg and ELV strings): a clock time with the weekday
--- of its date in place of its own
-unfoldable pub withWeekday : ClockTime → ClockTime
-withWeekday t =
-    record {
-      year = t .year;
-      month = t .month;
-      day = t .day;
-      weekday = weekdayOrZero (t .year) (t .month) (t .day);
-      hour = t .hour;
-      minute = t .minute;
-      second = t .second;
-      «utc_offset» = t .«utc_offset»;
-      unsynchronised = t .unsynchronised;
-      unverified = t .unverified;
-      «summer_time» = t .«summer_time»;
-      «dst_change_announced» = t .«dst_change_announced»;
-      «leap_second_announced» = t .«leap_second_announced»;
-      «alternate_antenna» = t .«alternate_antenna»;
-    }
-
--- what a string says: the fields that are sent, and the weekday of their date
+-- "No weekday is sent; it is worked out from the date." (01, Meinberg and ELV strings)
 unfoldable pub elvFields : List ℕ → ClockTime
 elvFields s = withWeekday (sentFields s)
 
@@ -117,7 +97,7 @@ elvRepresentable t =
 
 -- the format: its only fault beyond the shared ones is FF above 07
 unfoldable pub elv : Format ClockTime
-elv = clockFormat elvLayout elvFlagFault elvFields elvText
+elv = clockFormat elvLayout elvFlagFault elvFields
 
 -- the reader, by the rule for every time string
 unfoldable pub readElv : List ℕ → Answer ClockTime
@@ -125,4 +105,4 @@ readElv s = readText elv s
 
 -- the writer, by the rule for every time string
 unfoldable pub writeElv : ClockTime → List ℕ → Written
-writeElv t buffer = writeText elv t buffer
+writeElv t buffer = writeText (writtenClock elv elvText) t buffer

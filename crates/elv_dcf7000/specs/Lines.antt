@@ -1,6 +1,6 @@
 -- The table of refusals for the ELV string, in words.
 use Prim.Native.Nat.{ℕ, _<_}
-use mathlib.Core.List.{List}
+use mathlib.Core.List.{List, []}
 use Rattle.clock_time.specs.Order.{Line}
 use Rattle.layout.specs.Lines.{OwnFaults, textLines}
 use Rattle.layout.specs.Says.{twoDigitsAt}
@@ -11,8 +11,7 @@ abbrev pub elvFaults : OwnFaults
 elvFaults =
     record {
       Flags = λ s. 7 < twoDigitsAt s 18;
-      Offset = λ s. ⊥;
-      Position = λ s. ⊥;
+      lines = λ s. [];
       Time = λ s. ⊥;
     }
 

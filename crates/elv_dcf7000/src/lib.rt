@@ -8,7 +8,7 @@ ghost use lib.ListN.{length};
 ghost use Rattle.clock_time.specs.Errors.{errorNumber};
 ghost use Rattle.layout.specs.Layout.{FitsLayout, fitsFrom, layoutError};
 ghost use Rattle.layout.specs.Text.{readAnswer};
-ghost use Rattle.elv_dcf7000.specs.Elv.{elvLayout, elvFlagFault, elvOffset, sentFields, withWeekday, readElv};
+ghost use Rattle.elv_dcf7000.specs.Elv.{elvLayout, elvFlagFault, elvOffset, sentFields, readElv};
 
 // The layout, as the definition `elvLayout` has it.
 const D: u32 = 256;
@@ -69,7 +69,7 @@ fn has_flag_fault(s: &[u8]) -> bool
     (s[18] != b'0') | (b'7' < s[19])
 }
 
-// The fields that are sent, and Monday.
+// The fields that are sent, and 0 for a weekday.
 fn sent_fields(s: &[u8]) -> ClockTime
     requires { ⌜ (length (now s) ≡ 21) × (FitsLayout elvLayout (now s) × (elvFlagFault (now s) ≡ false)) ⌝ }
     ensures { λ r. ⌜ r ≡ sentFields (now (s .entry)) ⌝ }
@@ -82,7 +82,7 @@ fn sent_fields(s: &[u8]) -> ClockTime
         year: gregorian::full_year(date.first),
         month: date.second,
         day: date.third,
-        weekday: 1,
+        weekday: 0,
         hour: time.first,
         minute: time.second,
         second: time.third,
@@ -96,29 +96,7 @@ fn sent_fields(s: &[u8]) -> ClockTime
     }
 }
 
-// The clock time with the weekday of its date.
-fn with_weekday(t: ClockTime) -> ClockTime
-    ensures { λ r. ⌜ r ≡ withWeekday t ⌝ }
-{
-    ClockTime {
-        year: t.year,
-        month: t.month,
-        day: t.day,
-        weekday: calendar::date::weekday_or_zero(t.year, t.month, t.day),
-        hour: t.hour,
-        minute: t.minute,
-        second: t.second,
-        utc_offset: t.utc_offset,
-        unsynchronised: t.unsynchronised,
-        unverified: t.unverified,
-        summer_time: t.summer_time,
-        dst_change_announced: t.dst_change_announced,
-        leap_second_announced: t.leap_second_announced,
-        alternate_antenna: t.alternate_antenna,
-    }
-}
-
-// Reads a string that fits its layout. Its weekday is worked out only of a date that was found to exist.
+// Reads a string that fits its layout.
 fn read_fitting(s: &[u8]) -> ReadAnswer
     requires { ⌜ (length (now s) ≡ 21) × FitsLayout elvLayout (now s) ⌝ }
     ensures { λ r. ⌜ readAnswer r ≡ readElv (now (s .entry)) ⌝ }
@@ -126,10 +104,7 @@ fn read_fitting(s: &[u8]) -> ReadAnswer
     if has_flag_fault(s) {
         return ReadAnswer::Refused(Error::FlagLetter);
     }
-    match layout::check_clock(sent_fields(s), false) {
-        ReadAnswer::Read(t) => ReadAnswer::Read(with_weekday(t)),
-        ReadAnswer::Refused(e) => ReadAnswer::Refused(e),
-    }
+    layout::check_without_weekday(sent_fields(s))
 }
 
 // Reads an ELV DCF7000 string. Refuses with the first that holds of Length (1), FixedByte (2), NotDigit (3), FlagLetter

@@ -9,7 +9,7 @@ use Rattle.calendar.specs.TimeOfDay.{modulo, utcMinute, timeExists}
 use Rattle.calendar.specs.UnixTime.{offsetInRange, isReading, instantOf, unixTime}
 use Rattle.decimal.specs.Decimal.{isDigit, valueFrom}
 use Rattle.layout.specs.Layout.{allowed, errorAt, offence, first}
-use Rattle.layout.specs.Text.{clockChecks, textChecks, readText}
+use Rattle.layout.specs.Text.{supportedDay, clockChecks, textChecks, readText}
 use Rattle.signed.specs.Signed.{signed, signHolds}
 use Rattle.gps_position.specs.Aligned.{areDigits, rightAligned}
 use Rattle.gps_position.specs.Position.{angleDigits, positionDigits, inRange, positionFault, angleOf, positionOf}
@@ -25,7 +25,7 @@ use Rattle.examples.specs.Examples.{AllHold, examples}
 
 pub examples-hold : AllHold examples
 unfolding
-    readGps gps readText textChecks clockChecks gpsLayout ascii allowed errorAt offence first isDigit valueFrom
+    readGps gps readText textChecks supportedDay clockChecks gpsLayout ascii allowed errorAt offence first isDigit valueFrom
     offsetFault offsetOf signHolds signed leapMismatch clockOf gpsFields positionFault positionDigits angleDigits
     rightAligned areDigits inRange angleOf positionOf isLeapYear monthLengths daysInMonth dateExists fullYear supportedDate
     daysOfYears daysBeforeMonth daysSinceEpoch modulo utcMinute timeExists offsetInRange isReading instantOf unixTime

@@ -2,18 +2,18 @@
 -- the format can represent.
 use Prim.Native.Nat.{ℕ, _%_, _<_}
 use native.Mathlib.Omega.{arith}
-use mathlib.Core.Path.{_≡_, refl, _∙_}
+use mathlib.Core.Path.{_≡_, refl, sym, _∙_}
 use mathlib.Core.Logic.{_↔_}
 use mathlib.Core.Bool.{Bool, true, false, cond, _&&_, _||_, or-true}
 use mathlib.Core.List.{List}
 use lib.Dec.{eqb}
-use Rattle.clock_time.specs.Errors.{accepted}
+use Rattle.clock_time.specs.Errors.{accepted, Passes}
 use Rattle.clock_time.specs.Writing.{Written, writing, writeBack}
 use Rattle.clock_time.specs.declared.ClockTime.{ClockTime}
 use Rattle.clock_time.proofs.BackLaws.{decided}
 use Rattle.clock_time.proofs.SameLaws.{eqb-refl, sameTime-refl, sameTime-true}
 use Rattle.clock_time.proofs.Tests.{both}
-use Rattle.gregorian.specs.Date.{fullYear}
+use Rattle.gregorian.specs.Date.{fullYear, supportedDate}
 use Rattle.calendar.specs.UnixTime.{offsetInRange, isReading}
 use Rattle.calendar.specs.Representable.{isRepresentable}
 use Rattle.calendar.proofs.ValidLaws.{year-back}
@@ -21,7 +21,8 @@ use Rattle.calendar.proofs.RepresentableLaws.{representable-reading, represente
 use Rattle.decimal.specs.Decimal.{digits, value}
 use Rattle.decimal.proofs.DecimalLaws.{value-digits}
 use Rattle.layout.specs.Layout.{FitsLayout}
-use Rattle.layout.specs.Text.{Format, clockFormat, readText, writeText}
+use Rattle.layout.specs.Text.{Format, WrittenFormat, supportedDay, clockFormat, writtenClock, readText}
+use Rattle.layout.specs.Text.{writeText}
 use Rattle.layout.proofs.WriteLaws.{year-digits}
 use Rattle.layout.proofs.AcceptLaws.{PassesText, read-passes, passes-read}
 
@@ -67,89 +68,101 @@ pub ruleset numbers-written =
 -- ---- deciding
 -- What a writer needs to know of its format to decide from a value: which of them are
 -- representable.
-pub record Decides {A : Type 0} (f : Format A) (representable : A → Bool) : Type 0 where
-  -- what is read is representable, has a year of two digits and an offset in range
-  pub year : (s : List ℕ) → (n : ℕ) × (f .clock (f .fields s) .year ≡ fullYear n)
+pub record Decides
+    {A : Type 0} (f : Format A) (text : A → List ℕ) (representable : A → Bool) : Type 0 where
+  -- what is read is representable, has a date from 1970 to 2069 and an offset in range
+  pub supported : (t : ClockTime) → f .supported t ≡ supportedDay t
   pub offset : (s : List ℕ) → PassesText f s → offsetInRange (f .clock (f .fields s) .«utc_offset») ≡ true
   pub read-representable : (s : List ℕ) → PassesText f s → representable (f .fields s) ≡ true
   -- the text of a valid reading that is representable fits its layout, has no further faults, and says the same
-  pub fits : (a : A) → isRepresentable (f .clock a) ≡ true → representable a ≡ true → FitsLayout (f .layout) (f .text a)
-  pub flags : (a : A) → isRepresentable (f .clock a) ≡ true → representable a ≡ true → f .flagFault (f .text a) ≡ false
-  pub offsets : (a : A) → isRepresentable (f .clock a) ≡ true → representable a ≡ true → f .offsetFault (f .text a) ≡ false
-  pub position : (a : A) → isRepresentable (f .clock a) ≡ true → representable a ≡ true → f .positionFault (f .text a) ≡ false
-  pub agrees : (a : A) → isRepresentable (f .clock a) ≡ true → representable a ≡ true → f .mismatch (f .text a) ≡ false
-  pub says : (a : A) → isRepresentable (f .clock a) ≡ true → representable a ≡ true → f .fields (f .text a) ≡ a
+  pub fits : (a : A) → isRepresentable (f .clock a) ≡ true → representable a ≡ true → FitsLayout (f .layout) (text a)
+  pub flags : (a : A) → isRepresentable (f .clock a) ≡ true → representable a ≡ true → f .flagFault (text a) ≡ false
+  pub own : (a : A) → isRepresentable (f .clock a) ≡ true → representable a ≡ true → Passes (f .own (text a))
+  pub agrees : (a : A) → isRepresentable (f .clock a) ≡ true → representable a ≡ true → f .mismatch (text a) ≡ false
+  pub says : (a : A) → isRepresentable (f .clock a) ≡ true → representable a ≡ true → f .fields (text a) ≡ a
 
-module _ {A : Type 0} (f : Format A) (representable : A → Bool) (d : Decides f representable) where
-  read-common : (s : List ℕ) → PassesText f s → isRepresentable (f .clock (f .fields s)) ≡ true
-  read-common s r =
-      let y = d .year s in
-      let c = r .clock in
-      checked-representable (f .clock (f .fields s)) (y .0) (y .1) (c .date) (c .time) (c .weekday-least) (c .weekday-most) (d .offset s r)
+module _
+    {A : Type 0} (w : WrittenFormat A) (representable : A → Bool) (d : Decides (w .format) (w .text) representable)
+  where
+    abbrev f : Format A
+    f = w .format
 
-  text-passes : (a : A) → isRepresentable (f .clock a) ≡ true → representable a ≡ true → PassesText f (f .text a)
-  text-passes a h k =
-      let v = represented (f .clock a) h in
-      let same = d .says a h k in
-      record {
-        clock = record {
-          fits = d .fits a h k;
-          date = rw same (v .exists);
-          time = rw same (v .time);
-          weekday-least = rw same (v .weekday-least);
-          weekday-most = rw same (v .weekday-most);
-        };
-        flags = d .flags a h k;
-        offset = d .offsets a h k;
-        position = d .position a h k;
-        agrees = d .agrees a h k;
-      }
+    date : (t : ClockTime) → supportedDay t ≡ true → supportedDate (t .year) (t .month) (t .day) ≡ true
+    unfolding supportedDay
+    date t h = h
 
-  passes : (s : List ℕ) (a : A) → readText f s ≡ accepted a → (isRepresentable (f .clock a) && representable a) ≡ true
-  passes s a e =
-      let r = read-passes f s a e in
-      rw (r .1) (rw (read-common s (r .0)) (d .read-representable s (r .0)))
+    supports : (t : ClockTime) → supportedDate (t .year) (t .month) (t .day) ≡ true → supportedDay t ≡ true
+    unfolding supportedDay
+    supports t h = h
 
-  reads : (a : A) → (isRepresentable (f .clock a) && representable a) ≡ true → readText f (f .text a) ≡ accepted a
-  reads a e =
-      let w = both (isRepresentable (f .clock a)) (representable a) e in
-      passes-read f (f .text a) (text-passes a (w .0) (w .1)) ∙ rw (d .says a (w .0) (w .1))
+    read-common : (s : List ℕ) → PassesText f s → isRepresentable (f .clock (f .fields s)) ≡ true
+    read-common s r =
+        let c = r .clock in
+        let t = f .clock (f .fields s) in
+        checked-representable t (date t (sym (d .supported t) ∙ c .date)) (c .time) (c .weekday-least) (c .weekday-most)
+        (d .offset s r)
 
-  -- what is read is a valid reading
-  pub valid-answer : (s : List ℕ) (a : A) → readText f s ≡ accepted a → isReading (f .clock a) ≡ true
-  valid-answer s a e =
-      representable-reading (f .clock a) (both (isRepresentable (f .clock a)) (representable a) (passes s a e) .0)
+    text-passes : (a : A) → isRepresentable (f .clock a) ≡ true → representable a ≡ true → PassesText f (w .text a)
+    text-passes a h k =
+        let v = represented (f .clock a) h in
+        let same = d .says a h k in
+        record {
+          clock = record {
+            fits = d .fits a h k;
+            date = rw same (d .supported (f .clock a) ∙ supports (f .clock a) (v .supported-date));
+            time = rw same (v .time);
+            weekday-least = rw same (v .weekday-least);
+            weekday-most = rw same (v .weekday-most);
+          };
+          flags = d .flags a h k;
+          own = d .own a h k;
+          agrees = d .agrees a h k;
+        }
 
-  -- read exactly what is written: a string is read as a value exactly if the value is a valid reading that is representable,
-  -- and the string is its text
-  pub read-written : ((s : List ℕ) → PassesText f s → f .text (f .fields s) ≡ s) → (s : List ℕ) (a : A)
-      → (readText f s ≡ accepted a) ↔ (((isRepresentable (f .clock a) && representable a) ≡ true) × (f .text a ≡ s))
-  read-written text-fields s a = (
-    λ h. let r = read-passes f s a h in (passes s a h, rw (r .1) (text-fields s (r .0))),
-    λ w. rw (w .1) at (reads a (w .0)),
-  )
+    passes : (s : List ℕ) (a : A) → readText f s ≡ accepted a → (isRepresentable (f .clock a) && representable a) ≡ true
+    passes s a e =
+        let r = read-passes f s a e in
+        rw (r .1) (rw (read-common s (r .0)) (d .read-representable s (r .0)))
 
-  -- the writer's code: the two tests, and the bytes of the text
-  pub writes : ((a : A) → f .same a a ≡ true) → ((a b : A) → f .same a b ≡ true → a ≡ b)
-      → (a : A) (buffer : List ℕ) {t u : Bool} {bytes : List ℕ} {o : Written} → o ≡ writing (t && u) bytes buffer
-      → t ≡ isRepresentable (f .clock a) → u ≡ representable a → bytes ≡ f .text a → o ≡ writeText f a buffer
-  unfolding writeText writeBack
-  writes same-refl same-true a buffer w h k e =
-      w
-      ∙ rw (
-        h,
-        k,
-        e,
-        decided (readText f) (f .text) (f .same) same-refl same-true
-            (λ b. isRepresentable (f .clock b) && representable b) passes reads a,
-      )
+    reads : (a : A) → (isRepresentable (f .clock a) && representable a) ≡ true → readText f (w .text a) ≡ accepted a
+    reads a e =
+        let h = both (isRepresentable (f .clock a)) (representable a) e in
+        passes-read f (w .text a) (text-passes a (h .0) (h .1)) ∙ rw (d .says a (h .0) (h .1))
+
+    -- what is read is a valid reading
+    pub valid-answer : (s : List ℕ) (a : A) → readText f s ≡ accepted a → isReading (f .clock a) ≡ true
+    valid-answer s a e =
+        representable-reading (f .clock a) (both (isRepresentable (f .clock a)) (representable a) (passes s a e) .0)
+
+    -- read exactly what is written: a string is read as a value exactly if the value is a valid reading that is representable,
+    -- and the string is its text
+    pub read-written : ((s : List ℕ) → PassesText f s → w .text (f .fields s) ≡ s) → (s : List ℕ) (a : A)
+        → (readText f s ≡ accepted a) ↔ (((isRepresentable (f .clock a) && representable a) ≡ true) × (w .text a ≡ s))
+    read-written text-fields s a = (
+      λ h. let r = read-passes f s a h in (passes s a h, rw (r .1) (text-fields s (r .0))),
+      λ r. rw (r .1) at (reads a (r .0)),
+    )
+
+    -- the writer's code: the two tests, and the bytes of the text
+    pub writes : ((a : A) → w .same a a ≡ true) → ((a b : A) → w .same a b ≡ true → a ≡ b)
+        → (a : A) (buffer : List ℕ) {t u : Bool} {bytes : List ℕ} {o : Written} → o ≡ writing (t && u) bytes buffer
+        → t ≡ isRepresentable (f .clock a) → u ≡ representable a → bytes ≡ w .text a → o ≡ writeText w a buffer
+    unfolding writeText writeBack
+    writes same-refl same-true a buffer o h k e =
+        o
+        ∙ rw (
+          h,
+          k,
+          e,
+          decided (readText f) (w .text) (w .same) same-refl same-true
+              (λ b. isRepresentable (f .clock b) && representable b) passes reads a,
+        )
 
 -- ---- formats of clock times alone
 pub record DecidesClock
     (layout : List ℕ) (fault : List ℕ → Bool) (fields : List ℕ → ClockTime) (text : ClockTime → List ℕ)
     (representable : ClockTime → Bool) : Type 0 where
-  -- what is read is representable, has a year of two digits and an offset in range
-  pub year : (s : List ℕ) → (n : ℕ) × (fields s .year ≡ fullYear n)
+  -- what is read is representable and has an offset in range
   pub offset : (s : List ℕ) → offsetInRange (fields s .«utc_offset») ≡ true
   pub read-representable : (s : List ℕ) → representable (fields s) ≡ true
   -- a text fits its layout and has no fault, and that of a valid reading that is representable says the same
@@ -161,31 +174,34 @@ module _
     {layout : List ℕ} {fault : List ℕ → Bool} {fields : List ℕ → ClockTime} {text : ClockTime → List ℕ}
     {representable : ClockTime → Bool} (d : DecidesClock layout fault fields text representable)
   where
-    clock-decides : Decides (clockFormat layout fault fields text) representable
+    abbrev clockText : Format ClockTime
+    clockText = clockFormat layout fault fields
+
+    abbrev clockWritten : WrittenFormat ClockTime
+    clockWritten = writtenClock clockText text
+
+    clock-decides : Decides clockText text representable
     clock-decides =
         record {
-          year = d .year;
+          supported = λ t. refl;
           offset = λ s r. d .offset s;
           read-representable = λ s r. d .read-representable s;
           fits = λ t h k. d .fits t;
           flags = λ t h k. d .faultless t;
-          offsets = λ t h k. refl;
-          position = λ t h k. refl;
+          own = λ t h k. tt;
           agrees = λ t h k. refl;
           says = d .says;
         }
 
-    pub clock-valid : (s : List ℕ) (t : ClockTime) → readText (clockFormat layout fault fields text) s ≡ accepted t
+    pub clock-valid : (s : List ℕ) (t : ClockTime) → readText clockText s ≡ accepted t
         → isReading t ≡ true
-    clock-valid = valid-answer (clockFormat layout fault fields text) representable clock-decides
+    clock-valid = valid-answer clockWritten representable clock-decides
 
-    pub clock-written : let f = clockFormat layout fault fields text in
-        ((s : List ℕ) → PassesText f s → text (fields s) ≡ s) → (s : List ℕ) (t : ClockTime)
-        → (readText f s ≡ accepted t) ↔ (((isRepresentable t && representable t) ≡ true) × (text t ≡ s))
-    clock-written = read-written (clockFormat layout fault fields text) representable clock-decides
+    pub clock-written : ((s : List ℕ) → PassesText clockText s → text (fields s) ≡ s) → (s : List ℕ) (t : ClockTime)
+        → (readText clockText s ≡ accepted t) ↔ (((isRepresentable t && representable t) ≡ true) × (text t ≡ s))
+    clock-written = read-written clockWritten representable clock-decides
 
     pub clock-writes : (t : ClockTime) (buffer : List ℕ) {u v : Bool} {bytes : List ℕ} {o : Written}
         → o ≡ writing (u && v) bytes buffer → u ≡ isRepresentable t → v ≡ representable t → bytes ≡ text t
-        → o ≡ writeText (clockFormat layout fault fields text) t buffer
-    clock-writes =
-        writes (clockFormat layout fault fields text) representable clock-decides sameTime-refl sameTime-true
+        → o ≡ writeText clockWritten t buffer
+    clock-writes = writes clockWritten representable clock-decides sameTime-refl sameTime-true

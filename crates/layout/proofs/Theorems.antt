@@ -11,7 +11,7 @@ use Rattle.clock_time.specs.declared.ClockTime.{ClockTime}
 use Rattle.clock_time.proofs.BackLaws as writing
 use Rattle.clock_time.proofs.OrderLaws as orders
 use Rattle.calendar.specs.Rules.{ReadingRules}
-use Rattle.layout.specs.Text.{Format, clockFormat, textChecks, readText, writeText}
+use Rattle.layout.specs.Text.{Format, WrittenFormat, clockFormat, textChecks, readText, writeText}
 use Rattle.layout.specs.Picture.{Place, AsDrawn}
 use Rattle.layout.specs.Lines.{OwnFaults, noFaults, textLines}
 use Rattle.layout.proofs.AcceptLaws.{PassesText, read-passes}
@@ -41,8 +41,8 @@ module _
         (f .fields s, (w .fields-say s l, λ b h. w .said-fields s b l h))
 
 -- the first of these, of a format of clock times alone whose flags are all letters
-pub exactly-letters : {l : List ℕ} {fields : List ℕ → ClockTime} {text : ClockTime → List ℕ} {p : List Place}
-    {Says : List ℕ → ClockTime → Type 0} → let f = clockFormat l (λ s. false) fields text in
+pub exactly-letters : {l : List ℕ} {fields : List ℕ → ClockTime} {p : List Place}
+    {Says : List ℕ → ClockTime → Type 0} → let f = clockFormat l (λ s. false) fields in
     InWords f p noFaults NoRules Says → (s : List ℕ) (t : ClockTime)
     → (readText f s ≡ accepted t) ↔ (AsDrawn p s × Says s t × ReadingRules t)
 exactly-letters w s t = (
@@ -51,14 +51,17 @@ exactly-letters w s t = (
 )
 
 -- demand 2, of a format in which an accepted string is the text of its fields, and whose test of sameness is right
-pub faithful : {A : Type 0} (f : Format A) (Accepts : List ℕ → A → Type 0)
-    → ((s : List ℕ) (a : A) → (readText f s ≡ accepted a) ↔ Accepts s a)
-    → ((s : List ℕ) → PassesText f s → f .text (f .fields s) ≡ s)
-    → ((a : A) → f .same a a ≡ true) → ((a b : A) → f .same a b ≡ true → a ≡ b)
-    → Faithful Accepts (readText f) (writeText f)
+pub faithful : {A : Type 0} (w : WrittenFormat A) (Accepts : List ℕ → A → Type 0) → let f = w .format in
+    ((s : List ℕ) (a : A) → (readText f s ≡ accepted a) ↔ Accepts s a)
+    → ((s : List ℕ) → PassesText f s → w .text (f .fields s) ≡ s)
+    → ((a : A) → w .same a a ≡ true) → ((a b : A) → w .same a b ≡ true → a ≡ b)
+    → Faithful Accepts (readText f) (writeText w)
 unfolding writeText
-faithful {A} f Accepts exact back same-refl same-true =
-    writing.faithful (readText f) (f .text) (f .same) text-read same-refl same-true Accepts exact
+faithful {A} w Accepts exact back same-refl same-true =
+    writing.faithful (readText f) (w .text) (w .same) text-read same-refl same-true Accepts exact
   where
-    text-read : (s : List ℕ) (a : A) → readText f s ≡ accepted a → f .text a ≡ s
+    f : Format A
+    f = w .format
+
+    text-read : (s : List ℕ) (a : A) → readText f s ≡ accepted a → w .text a ≡ s
     text-read s a h = let r = read-passes f s a h in rw (r .1) (back s (r .0))

@@ -9,67 +9,76 @@ use Rattle.clock_time.specs.Errors.{Answer, accepted, refused, errorNumber, Che
 use Rattle.clock_time.specs.Same.{sameTime}
 use Rattle.clock_time.specs.Writing.{Written, writeBack}
 use Rattle.clock_time.specs.declared.ClockTime.{ClockTime}
-use Rattle.gregorian.specs.Date.{dateExists}
+use Rattle.gregorian.specs.Date.{supportedDate}
 use Rattle.calendar.specs.TimeOfDay.{timeExists}
 use Rattle.decimal.specs.Decimal.{digits}
 use Rattle.layout.specs.Layout.{found}
 use Rattle.layout.specs.declared.ReadAnswer.{ReadAnswer}
 use Rattle.layout.specs.declared.ReadAnswer.the-variants.{Read, Refused}
 
--- A format: its layout, what its fields say, its own faults beyond those that all formats share; and the only string
--- that could be read as a value, with the test that two values are the same.
+-- A format: its layout, a fault of its flags given with 4, its own checks before 5, the dates that it can give, a fault
+-- given with 6, and what its fields say.
 pub record Format (A : Type 0) : Type 0 where
   pub layout : List ℕ
   pub flagFault : List ℕ → Bool
-  pub offsetFault : List ℕ → Bool
-  pub positionFault : List ℕ → Bool
+  pub own : List ℕ → List Check
+  pub supported : ClockTime → Bool
   pub mismatch : List ℕ → Bool
   pub fields : List ℕ → A
   pub clock : A → ClockTime
+
+-- A format that is written too: the only string that could be read as a value, and the test that two values are the
+-- same.
+pub record WrittenFormat (A : Type 0) : Type 0 where
+  pub format : Format A
   pub text : A → List ℕ
   pub same : A → A → Bool
 
+-- "year 1970 to 2069, a date" (01, The reading)
+unfoldable pub supportedDay : ClockTime → Bool
+supportedDay t = supportedDate (t .year) (t .month) (t .day)
+
 -- a format of clock times alone, which has no faults of its own but in its flags
-abbrev pub clockFormat : List ℕ → (List ℕ → Bool) → (List ℕ → ClockTime) → (ClockTime → List ℕ) → Format ClockTime
-clockFormat layout flagFault fields text =
+abbrev pub clockFormat : List ℕ → (List ℕ → Bool) → (List ℕ → ClockTime) → Format ClockTime
+clockFormat layout flagFault fields =
     record {
       layout = layout;
       flagFault = flagFault;
-      offsetFault = λ s. false;
-      positionFault = λ s. false;
+      own = λ s. [];
+      supported = supportedDay;
       mismatch = λ s. false;
       fields = fields;
       clock = λ t. t;
-      text = text;
-      same = sameTime;
     }
 
+-- the same, written too
+abbrev pub writtenClock : Format ClockTime → (ClockTime → List ℕ) → WrittenFormat ClockTime
+writtenClock format text = record { format = format; text = text; same = sameTime }
+
 -- 5: "no such date"; 6: "no such time of day, second 60 rule included"; 7: "weekday outside 1..7" (01, Refusal numbers)
-unfoldable pub clockChecks : ClockTime → Bool → List Check
-clockChecks t mismatch =
-    given 5 (not (dateExists (t .year) (t .month) (t .day)))
+unfoldable pub clockChecks : Bool → ClockTime → Bool → List Check
+clockChecks supported t mismatch =
+    given 5 (not supported)
     ∷ given 6 (not (timeExists (t .hour) (t .minute) (t .second) (t .«utc_offset»)) || mismatch)
     ∷ given 7 (not (leb 1 (t .weekday) && leb (t .weekday) 7))
     ∷ []
 
--- "Order for text: 1, 2, 3, 4, 8, 9, 5, 6, 7." (01, Refusal numbers)
+-- "Order for text: 1, 2, 3, 4, 8, 9, 5, 6, 7." (01, Refusal numbers): 8 and 9 are GPS's own
 unfoldable pub textChecks : {A : Type 0} → Format A → List ℕ → List Check
 textChecks f s =
     given 1 (not (eqb (length (f .layout)) (length s)))
     ∷ given 2 (found 2 (f .layout) s)
     ∷ given 3 (found 3 (f .layout) s)
     ∷ given 4 (found 4 (f .layout) s || f .flagFault s)
-    ∷ given 8 (f .offsetFault s)
-    ∷ given 9 (f .positionFault s)
-    ∷ clockChecks (f .clock (f .fields s)) (f .mismatch s)
+    ∷ (f .own s ++ (let t = f .clock (f .fields s) in clockChecks (f .supported t) t (f .mismatch s)))
 
 -- the reader of any format: its checks in their order, and then what its fields say
 unfoldable pub readText : {A : Type 0} → Format A → List ℕ → Answer A
 readText f s = checked (textChecks f s) (f .fields s)
 
 -- the writer of any format
-unfoldable pub writeText : {A : Type 0} → Format A → A → List ℕ → Written
-writeText f a buffer = writeBack (readText f) (f .text) (f .same) a buffer
+unfoldable pub writeText : {A : Type 0} → WrittenFormat A → A → List ℕ → Written
+writeText w a buffer = writeBack (readText (w .format)) (w .text) (w .same) a buffer
 
 -- a letter where a flag is set, else a blank
 abbrev pub letter : Bool → Char → ℕ

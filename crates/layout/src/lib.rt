@@ -6,8 +6,9 @@ ghost use mathlib.Core.Path.{_≡_};
 ghost use lib.ListN.{length};
 ghost use Rattle.clock_time.specs.Errors.{errorNumber, checked};
 ghost use Rattle.layout.specs.Layout.{allowed, errorAt, offence, first, layoutError};
-ghost use Rattle.layout.specs.Text.{clockChecks, readAnswer, clockDigits};
-ghost use mathlib.Core.Bool.{cond};
+ghost use Rattle.layout.specs.Text.{supportedDay, clockChecks, readAnswer, clockDigits};
+ghost use mathlib.Core.Bool.{cond, false};
+ghost use Rattle.calendar.specs.Weekday.{withWeekday};
 
 pub mod words;
 
@@ -93,9 +94,9 @@ pub fn layout_error(layout: &[u32], s: &[u8]) -> Error
 // The clock time. Refuses with the first that holds of NoSuchDate (5), NoSuchTime (6) and Weekday (7); `mismatch` is a
 // further reason for NoSuchTime.
 pub fn check_clock(t: ClockTime, mismatch: bool) -> ReadAnswer
-    ensures { λ r. ⌜ readAnswer r ≡ checked (clockChecks t mismatch) t ⌝ }
+    ensures { λ r. ⌜ readAnswer r ≡ checked (clockChecks (supportedDay t) t mismatch) t ⌝ }
 {
-    if !gregorian::date_exists(t.year, t.month, t.day) {
+    if !gregorian::is_supported_date(t.year, t.month, t.day) {
         return ReadAnswer::Refused(Error::NoSuchDate);
     }
     if !calendar::time_of_day::time_exists(t.hour, t.minute, t.second, t.utc_offset) | mismatch {
@@ -105,6 +106,20 @@ pub fn check_clock(t: ClockTime, mismatch: bool) -> ReadAnswer
         return ReadAnswer::Read(t);
     }
     ReadAnswer::Refused(Error::Weekday)
+}
+
+// The clock time with the weekday of its date, for a format that sends none. Refuses with NoSuchDate (5) if the date is
+// not one of 1970 to 2069, then with NoSuchTime (6).
+pub fn check_without_weekday(t: ClockTime) -> ReadAnswer
+    ensures { λ r. ⌜ readAnswer r ≡ checked (clockChecks (supportedDay t) (withWeekday t) false) (withWeekday t) ⌝ }
+{
+    if !gregorian::is_supported_date(t.year, t.month, t.day) {
+        return ReadAnswer::Refused(Error::NoSuchDate);
+    }
+    if !calendar::time_of_day::time_exists(t.hour, t.minute, t.second, t.utc_offset) {
+        return ReadAnswer::Refused(Error::NoSuchTime);
+    }
+    ReadAnswer::Read(calendar::date::with_weekday(t))
 }
 
 // The letter where `on`, else a blank.

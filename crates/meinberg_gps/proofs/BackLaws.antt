@@ -52,9 +52,9 @@ gps-back s r =
     let fit = r .clock .fits in
     rw (
       pzf-back fit,
-      offset-back fit (r .offset),
+      offset-back fit (r .own .0),
       leap-back fit (r .agrees),
-      position-back s (r .position),
+      position-back s (r .own .1 .0),
     )
     (restore-fits fit)
 

@@ -10,7 +10,7 @@ use Rattle.calendar.specs.Representable.{isRepresentable}
 use Rattle.calendar.proofs.RepresentableLaws.{represented}
 use Rattle.decimal.specs.Decimal.{digits}
 use Rattle.decimal.proofs.DecimalLaws.{digit-written}
-use Rattle.layout.specs.Layout.{allowed, fitsFrom, FitsLayout, number}
+use Rattle.layout.specs.Layout.{allowed, fitsFrom, FitsLayout}
 use Rattle.layout.proofs.LayoutLaws.{tested-fits}
 use Rattle.layout.proofs.DecideLaws.{letter-fits, letter-read, numbers-written, Decides}
 use Rattle.layout.proofs.DecideLaws as text
@@ -21,7 +21,7 @@ use Rattle.gps_position.proofs.PositionWrittenLaws.{PositionRead, position-read
 use Rattle.meinberg_pzf.specs.Pzf.{pzfText}
 use Rattle.meinberg_gps.specs.Gps.{gpsLayout, offsetText, leapMismatch, clockOf, gpsFields, lineWith, gpsText}
 use Rattle.meinberg_gps.specs.Gps.{gps}
-use Rattle.meinberg_gps.specs.Gps.{writeGps}
+use Rattle.meinberg_gps.specs.Gps.{writtenGps, writeGps}
 use Rattle.meinberg_gps.specs.declared.GpsTime.{GpsTime}
 use Rattle.meinberg_gps.proofs.OffsetLaws.{OffsetRead, offset-read, offset-in-range}
 use Rattle.meinberg_gps.proofs.BackLaws.{sameGps-refl, sameGps-true}
@@ -52,17 +52,16 @@ position-part : (g : GpsTime) → gpsCarries g ≡ true → PositionRead (g .pos
 unfolding gpsText lineWith pzfText offsetText positionText angleBytes aligned padded ascii digits
 position-part g k = position-read (g .position) k (gpsText g) refl
 
-pub decides : Decides gps gpsCarries
+pub decides : Decides gps gpsText gpsCarries
 unfolding gps gpsFields clockOf
 decides =
     record {
-      year = λ s. (number 2 7 s, refl);
-      offset = λ s r. offset-in-range s (r .offset);
-      read-representable = λ s r. position-representable s (r .position);
+      supported = λ t. refl;
+      offset = λ s r. offset-in-range s (r .own .0);
+      read-representable = λ s r. position-representable s (r .own .1 .0);
       fits = λ g h k. text-fits g;
       flags = λ g h k. refl;
-      offsets = λ g h k. offset-part g h .faultless;
-      position = λ g h k. position-part g k .faultless;
+      own = λ g h k. (offset-part g h .faultless, (position-part g k .faultless, tt));
       agrees = λ g h k. leap-part g h;
       says = λ g h k i. record { time = clock-part g h i; position = position-part g k .same i };
     }
@@ -71,5 +70,5 @@ decides =
 pub writes : (g : GpsTime) (buffer : List ℕ) {u v : Bool} {bytes : List ℕ} {o : Written}
     → o ≡ writing (u && v) bytes buffer → u ≡ isRepresentable (g .time) → v ≡ positionRepresentable (g .position)
     → bytes ≡ gpsText g → o ≡ writeGps g buffer
-unfolding writeGps gps
-writes = text.writes gps gpsCarries decides sameGps-refl sameGps-true
+unfolding writeGps writtenGps gps
+writes = text.writes writtenGps gpsCarries decides sameGps-refl sameGps-true

@@ -7,7 +7,7 @@ use Rattle.clock_time.specs.Errors.{Answer, accepted, refused, Check, checked}
 use Rattle.clock_time.specs.declared.ClockTime.{ClockTime}
 use Rattle.clock_time.specs.declared.Position.{Position}
 use Rattle.layout.specs.Layout.{FitsLayout}
-use Rattle.layout.specs.Text.{clockChecks}
+use Rattle.layout.specs.Text.{supportedDay, clockChecks}
 use Rattle.layout.proofs.TextLaws.{laterChecks, read-fitting}
 use Rattle.gps_position.specs.Position.{positionFault, positionOf, readPosition}
 use Rattle.meinberg_gps.specs.Gps.{gpsLayout, offsetFault, leapMismatch, clockOf, readClock}
@@ -38,8 +38,9 @@ afterPosition s (accepted p) = readClock s p
 afterPosition s (refused k) = refused k
 
 pub read-clock : (s : List ℕ) (p : Position) {t : ClockTime} {m : Bool} {r : Answer ClockTime} → t ≡ clockOf s
-    → m ≡ leapMismatch s → r ≡ checked (clockChecks t m) t → placed p r ≡ readClock s p
-read-clock s p e f h = rw (h, e, f) (checked-placed p (clockChecks (clockOf s) (leapMismatch s)) (clockOf s))
+    → m ≡ leapMismatch s → r ≡ checked (clockChecks (supportedDay t) t m) t → placed p r ≡ readClock s p
+read-clock s p e f h =
+    rw (h, e, f) (checked-placed p (clockChecks (supportedDay (clockOf s)) (clockOf s) (leapMismatch s)) (clockOf s))
 
 module _ {s : List ℕ} (fit : FitsLayout gpsLayout s) where
   read-fits : readGps s ≡ checked (laterChecks gps s) (gpsFields s)
@@ -54,7 +55,8 @@ module _ {s : List ℕ} (fit : FitsLayout gpsLayout s) where
   unfolding gps readPosition gpsFields
   read-placed h = read-fits ∙ rw h (go (positionFault s))
     where
-      go : (t : Bool) → cond t (refused 9) (checked (clockChecks (clockOf s) (leapMismatch s)) (gpsFields s))
+      go : (t : Bool) → cond t (refused 9) (checked
+          (clockChecks (supportedDay (clockOf s)) (clockOf s) (leapMismatch s)) (gpsFields s))
           ≡ afterPosition s (cond t (refused 9) (accepted (positionOf s)))
       go true = refl
       go false = refl

@@ -15,7 +15,7 @@ use Rattle.layout.specs.Picture.{AsDrawn}
 use Rattle.layout.proofs.DecideLaws.{valid-answer, read-written}
 use Rattle.layout.proofs.Theorems as text
 use Rattle.gps_position.specs.Position.{positionRepresentable}
-use Rattle.meinberg_gps.specs.Gps.{gpsText, gps, readGps, writeGps}
+use Rattle.meinberg_gps.specs.Gps.{gpsText, gps, readGps, writeGps, writtenGps}
 use Rattle.meinberg_gps.specs.Accepts.{AcceptsGps}
 use Rattle.meinberg_gps.specs.Says.{gpsPicture, RulesGps, SaysGps}
 use Rattle.meinberg_gps.specs.Lines.{gpsLines}
@@ -26,8 +26,8 @@ use Rattle.meinberg_gps.proofs.GpsLaws.{gpsCarries, decides}
 
 -- demand 2: acceptance, the fields read, and what is written
 pub faithful : Faithful AcceptsGps readGps writeGps
-unfolding readGps writeGps gps
-faithful = text.faithful gps AcceptsGps (text.exactly in-words) gps-back sameGps-refl sameGps-true
+unfolding readGps writeGps writtenGps gps
+faithful = text.faithful writtenGps AcceptsGps (text.exactly in-words) gps-back sameGps-refl sameGps-true
 
 -- its first sentence by itself
 pub read-gps-exactly : (s : List ℕ) (g : GpsTime)
@@ -51,12 +51,12 @@ long = refl
 
 -- what is read is a valid reading
 pub valid-read : (s : List ℕ) (g : GpsTime) → readGps s ≡ accepted g → isReading (g .time) ≡ true
-unfolding readGps gps
-valid-read = valid-answer gps gpsCarries decides
+unfolding readGps writtenGps gps
+valid-read = valid-answer writtenGps gpsCarries decides
 
 -- read exactly what is written: as g, the text of g and no other string, if g is a valid reading at a position that it
 -- can represent
 pub read-is-written : (s : List ℕ) (g : GpsTime) → (readGps s ≡ accepted g)
     ↔ (((isRepresentable (g .time) && positionRepresentable (g .position)) ≡ true) × (gpsText g ≡ s))
-unfolding readGps gps
-read-is-written = read-written gps gpsCarries decides gps-back
+unfolding readGps writtenGps gps
+read-is-written = read-written writtenGps gpsCarries decides gps-back

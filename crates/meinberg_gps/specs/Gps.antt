@@ -6,7 +6,7 @@ use mathlib.Core.List.{List, [], _∷_, _++_}
 use lib.Dec.{leb, eqb}
 use lib.ListN.{getD}
 use lib.IntN.{ℤ, natAbs}
-use Rattle.clock_time.specs.Errors.{Answer, accepted, refused, errorNumber, checked}
+use Rattle.clock_time.specs.Errors.{Answer, accepted, refused, errorNumber, given, checked}
 use Rattle.clock_time.specs.Same.{sameTime, samePosition}
 use Rattle.clock_time.specs.Writing.{Written}
 use Rattle.clock_time.specs.declared.ClockTime.{ClockTime}
@@ -15,7 +15,7 @@ use Rattle.clock_time.specs.Lists.{ascii, slice}
 use Rattle.gregorian.specs.Date.{fullYear}
 use Rattle.decimal.specs.Decimal.{digits}
 use Rattle.layout.specs.Layout.{digit, free, flag, places, number, has}
-use Rattle.layout.specs.Text.{Format, clockChecks, readText, writeText, letter}
+use Rattle.layout.specs.Text.{Format, WrittenFormat, supportedDay, clockChecks, readText, writeText, letter}
 use Rattle.signed.specs.Signed.{signed, signHolds, signByte}
 use Rattle.gps_position.specs.Position.{positionFault, positionOf, positionText}
 use Rattle.meinberg_pzf.specs.Pzf.{pzfText}
@@ -83,7 +83,8 @@ clockOf s =
 
 -- what is left to check once the offset and the position hold
 abbrev pub readClock : List ℕ → Position → Answer GpsTime
-readClock s p = checked (clockChecks (clockOf s) (leapMismatch s)) (record { time = clockOf s; position = p })
+readClock s p =
+    checked (clockChecks (supportedDay (clockOf s)) (clockOf s) (leapMismatch s)) (record { time = clockOf s; position = p })
 
 -- what a string says: "A GPS string adds position and height" (01, The reading) to a clock time
 unfoldable pub gpsFields : List ℕ → GpsTime
@@ -107,20 +108,23 @@ gpsText g =
 unfoldable pub sameGps : GpsTime → GpsTime → Bool
 sameGps a b = sameTime (a .time) (b .time) && samePosition (a .position) (b .position)
 
--- the format, with all the faults that GPS strings have beyond the shared ones
+-- the format, with all the faults that GPS strings have beyond the shared ones; 8: "offset sign or size"; 9: "position"
+-- (01, Refusal numbers)
 unfoldable pub gps : Format GpsTime
 gps =
     record {
       layout = gpsLayout;
       flagFault = λ s. false;
-      offsetFault = offsetFault;
-      positionFault = positionFault;
+      own = λ s. given 8 (offsetFault s) ∷ given 9 (positionFault s) ∷ [];
+      supported = supportedDay;
       mismatch = leapMismatch;
       fields = gpsFields;
       clock = λ g. g .time;
-      text = gpsText;
-      same = sameGps;
     }
+
+-- the same, written too
+unfoldable pub writtenGps : WrittenFormat GpsTime
+writtenGps = record { format = gps; text = gpsText; same = sameGps }
 
 -- the reader, by the rule for every time string
 unfoldable pub readGps : List ℕ → Answer GpsTime
@@ -128,7 +132,7 @@ readGps s = readText gps s
 
 -- the writer, by the rule for every time string
 unfoldable pub writeGps : GpsTime → List ℕ → Written
-writeGps g buffer = writeText gps g buffer
+writeGps g buffer = writeText writtenGps g buffer
 
 -- the function's answer: what was read, or a refusal with the error's number
 abbrev pub gpsAnswer : GpsAnswer → Answer GpsTime

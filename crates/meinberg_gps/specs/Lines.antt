@@ -1,7 +1,7 @@
 -- The table of refusals for the GPS string, in words.
 use Prim.Native.Nat.{ℕ}
-use mathlib.Core.List.{List}
-use Rattle.clock_time.specs.Order.{Line}
+use mathlib.Core.List.{List, [], _∷_}
+use Rattle.clock_time.specs.Order.{Line, line}
 use Rattle.layout.specs.Lines.{OwnFaults, textLines}
 use Rattle.gps_position.specs.Rules.{PositionRules}
 use Rattle.meinberg_gps.specs.Says.{gpsPicture, SaysGps, OffsetRules, LeapLetter}
@@ -13,8 +13,7 @@ abbrev pub gpsFaults : OwnFaults
 gpsFaults =
     record {
       Flags = λ s. ⊥;
-      Offset = λ s. OffsetRules s → ⊥;
-      Position = λ s. PositionRules s → ⊥;
+      lines = λ s. line 8 (OffsetRules s → ⊥) ∷ line 9 (PositionRules s → ⊥) ∷ [];
       Time = λ s. LeapLetter s → ⊥;
     }
 

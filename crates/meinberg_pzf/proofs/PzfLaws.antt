@@ -12,7 +12,7 @@ use Rattle.calendar.specs.Representable.{isRepresentable}
 use Rattle.calendar.proofs.ValidLaws.{zone-in-range}
 use Rattle.decimal.specs.Decimal.{digits}
 use Rattle.decimal.proofs.DecimalLaws.{digit-written}
-use Rattle.layout.specs.Layout.{allowed, fitsFrom, FitsLayout, number, has}
+use Rattle.layout.specs.Layout.{allowed, fitsFrom, FitsLayout, has}
 use Rattle.layout.proofs.LayoutLaws.{tested-fits}
 use Rattle.layout.proofs.DecideLaws.{letter-fits, letter-read, numbers-written, DecidesClock}
 use Rattle.layout.proofs.WriteLaws.{restore-fits, digits-number, digits-year, letter-back}
@@ -47,7 +47,6 @@ pub decides : DecidesClock pzfLayout (λ s. false) pzfFields pzfText pzfRepresen
 unfolding pzfFields pzfOffset
 decides =
     record {
-      year = λ s. (number 2 7 s, refl);
       offset = λ s. zone-in-range (has "U" 24 s) (has "S" 27 s);
       read-representable = fields-representable;
       fits = text-fits;

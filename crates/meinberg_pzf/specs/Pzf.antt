@@ -11,7 +11,7 @@ use Rattle.clock_time.specs.Lists.{ascii}
 use Rattle.gregorian.specs.Date.{fullYear}
 use Rattle.decimal.specs.Decimal.{digits}
 use Rattle.layout.specs.Layout.{digit, flag, places, number, has}
-use Rattle.layout.specs.Text.{Format, clockFormat, readText, writeText, letter}
+use Rattle.layout.specs.Text.{Format, clockFormat, writtenClock, readText, writeText, letter}
 
 -- "`STX dd.mm.yy; w; hh:mm:ss; tuvxyza ETX`. Flags at 24..30: t `U`, u `#`, v `*`, x `S`, y `!`, z `A`, a `R`, or
 -- blank." (01, Meinberg and ELV strings)
@@ -70,7 +70,7 @@ pzfRepresentable t = eqℤ (pzfOffset (eqℤ (t .«utc_offset») (pos 0)) (t .«
 
 -- it has no faults of its own beyond its layout's and its clock time's
 unfoldable pub pzf : Format ClockTime
-pzf = clockFormat pzfLayout (λ s. false) pzfFields pzfText
+pzf = clockFormat pzfLayout (λ s. false) pzfFields
 
 -- the reader, by the rule for every time string
 unfoldable pub readPzf : List ℕ → Answer ClockTime
@@ -78,4 +78,4 @@ readPzf s = readText pzf s
 
 -- the writer, by the rule for every time string
 unfoldable pub writePzf : ClockTime → List ℕ → Written
-writePzf t buffer = writeText pzf t buffer
+writePzf t buffer = writeText (writtenClock pzf pzfText) t buffer

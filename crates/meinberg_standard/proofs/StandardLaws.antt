@@ -18,7 +18,7 @@ use Rattle.calendar.specs.Representable.{isRepresentable}
 use Rattle.calendar.proofs.ValidLaws.{zone-in-range}
 use Rattle.decimal.specs.Decimal.{digits}
 use Rattle.decimal.proofs.DecimalLaws.{digit-written}
-use Rattle.layout.specs.Layout.{allowed, fitsFrom, FitsLayout, number}
+use Rattle.layout.specs.Layout.{allowed, fitsFrom, FitsLayout}
 use Rattle.layout.proofs.LayoutLaws.{tested-fits}
 use Rattle.layout.proofs.DecideLaws.{letter-fits, letter-read, numbers-written, DecidesClock}
 use Rattle.layout.proofs.WriteLaws.{restore-fits, digits-number, digits-year, letter-back, either-all}
@@ -151,7 +151,6 @@ pub decides : DecidesClock standardLayout (λ s. false) standardFields standardT
 unfolding standardFields standardZone
 decides =
     record {
-      year = λ s. (number 2 9 s, refl);
       offset = λ s. zone-in-range (eqb (getD s 29 0) (code "U")) (eqb (getD s 29 0) (code "S"));
       read-representable = fields-representable;
       fits = text-fits;

@@ -13,6 +13,7 @@ use Rattle.clock_time.proofs.SameLaws.{sameTime-refl, sameTime-true}
 use Rattle.calendar.specs.UnixTime.{isReading}
 use Rattle.calendar.specs.Representable.{isRepresentable}
 use Rattle.calendar.specs.Rules.{ReadingRules}
+use Rattle.layout.specs.Text.{writtenClock}
 use Rattle.layout.specs.Picture.{AsDrawn}
 use Rattle.layout.proofs.DecideLaws.{clock-valid, clock-written}
 use Rattle.layout.proofs.Theorems as text
@@ -27,7 +28,7 @@ use Rattle.meinberg_standard.proofs.SaysLaws.{in-words}
 pub faithful : Faithful AcceptsStandard readStandard writeStandard
 unfolding readStandard writeStandard standard
 faithful =
-    text.faithful standard AcceptsStandard (text.exactly-letters in-words) (λ s r. standard-back s (r .clock .fits))
+    text.faithful (writtenClock standard standardText) AcceptsStandard (text.exactly-letters in-words) (λ s r. standard-back s (r .clock .fits))
     sameTime-refl sameTime-true
 
 -- its first sentence by itself

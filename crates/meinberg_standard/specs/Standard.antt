@@ -14,7 +14,7 @@ use Rattle.clock_time.specs.Lists.{ascii}
 use Rattle.gregorian.specs.Date.{fullYear}
 use Rattle.decimal.specs.Decimal.{digits}
 use Rattle.layout.specs.Layout.{digit, flag, either, places, number, has}
-use Rattle.layout.specs.Text.{Format, clockFormat, readText, writeText, letter}
+use Rattle.layout.specs.Text.{Format, clockFormat, writtenClock, readText, writeText, letter}
 
 -- "`STX D:dd.mm.yy;T:w;U:hh.mm.ss;uvxy ETX` (the blanks beside STX and ETX are only for print). [..] The time has dots:
 -- 002 shows colons in the layout, dots in its pattern. Dots hold." (01, Meinberg and ELV strings)
@@ -82,7 +82,7 @@ standardRepresentable t =
 
 -- it has no faults of its own beyond its layout's and its clock time's
 unfoldable pub standard : Format ClockTime
-standard = clockFormat standardLayout (λ s. false) standardFields standardText
+standard = clockFormat standardLayout (λ s. false) standardFields
 
 -- the reader, by the rule for every time string
 unfoldable pub readStandard : List ℕ → Answer ClockTime
@@ -90,4 +90,4 @@ readStandard s = readText standard s
 
 -- the writer, by the rule for every time string
 unfoldable pub writeStandard : ClockTime → List ℕ → Written
-writeStandard t buffer = writeText standard t buffer
+writeStandard t buffer = writeText (writtenClock standard standardText) t buffer

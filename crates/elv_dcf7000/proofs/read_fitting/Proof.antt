@@ -20,21 +20,11 @@ sent-fields-requires c κs = let p = c .before .before .before .pre in (p .0, (p
 
 returns-2 : tie.Need-returns-2
 returns-2 c =
-    let k = c .before .before .before .before in
-    let f = k .before in
-    let checked-is = rw (f .sent-fields .ensures, c .before .before .t .given .1) at (k .check-clock .ensures) in
-    rw (c .with-weekday .ensures)
-    (read-clock (f .before .before .before .before .pre .1) (faultless (f .before)) _ checked-is)
-
-returns-3 : tie.Need-returns-3
-returns-3 c =
-    let k = c .before .before .before in
-    let f = k .before in
-    let checked-is = rw (f .sent-fields .ensures, c .before .e .given .1) at (k .check-clock .ensures) in
+    let f = c .before in
+    let checked-is = rw (f .sent-fields .ensures) at (c .check-without-weekday .ensures) in
     read-clock (f .before .before .before .before .pre .1) (faultless (f .before)) _ checked-is
 
 pub read-fitting-spec : {M : Type 1} → statement M
 read-fitting-spec =
     tie.close
-    (tie.spec (λ c κs. search needs) returns sent-fields-requires (λ c κs. search needs) (λ c. search needs)
-    (λ c κs. search needs) (λ c. search needs) returns-2 returns-3)
+    (tie.spec (λ c κs. search needs) returns sent-fields-requires (λ c κs. search needs) returns-2)

@@ -6,7 +6,7 @@ use mir.Syntax.{w16}
 use mir.Val.{SFits}
 use mir.Facts.{toZ-ofZ}
 use Rattle.clock_time.specs.Errors.{accepted, refused, checked}
-use Rattle.layout.specs.Text.{clockChecks}
+use Rattle.layout.specs.Text.{supportedDay, clockChecks}
 use Rattle.layout.proofs.check_clock.Statement.{statement}
 use Rattle.layout.proofs.check_clock.Tie as tie
 
@@ -14,25 +14,25 @@ offset-fits : (c : tie.Start) → SFits w16 (c .args .t .«utc_offset»)
 offset-fits c = search sfits-of
 
 returns : tie.Need-returns
-unfolding clockChecks
-returns c = simp (← (c .before .date-exists .ensures), c .if1 .taken)
+unfolding clockChecks supportedDay
+returns c = simp (← (c .before .is-supported-date .ensures), c .if1 .taken)
 
 returns-2 : tie.Need-returns-2
-unfolding clockChecks
+unfolding clockChecks supportedDay
 returns-2 c =
     let d = c .before .before .before in
     let time = rw (toZ-ofZ (offset-fits (d .before .before))) at (c .before .time-exists .ensures) in
-    simp (← (d .before .date-exists .ensures), d .if1 .left, ← time, c .if2 .taken)
+    simp (← (d .before .is-supported-date .ensures), d .if1 .left, ← time, c .if2 .taken)
 
 -- the date and the time hold, and the weekday decides
 dated : (c : tie.Else2) → let x = c .before .before .before .before .before .args in
-    checked (clockChecks (x .t) (x .mismatch)) (x .t)
+    checked (clockChecks (supportedDay (x .t)) (x .t) (x .mismatch)) (x .t)
     ≡ cond (not (leb 1 (x .t .weekday) && leb (x .t .weekday) 7)) (refused 7) (accepted (x .t))
-unfolding clockChecks
+unfolding clockChecks supportedDay
 dated c =
     let d = c .before .before .before in
     let time = rw (toZ-ofZ (offset-fits (d .before .before))) at (c .before .time-exists .ensures) in
-    simp (← (d .before .date-exists .ensures), d .if1 .left, ← time, c .if2 .left)
+    simp (← (d .before .is-supported-date .ensures), d .if1 .left, ← time, c .if2 .left)
 
 returns-3 : tie.Need-returns-3
 returns-3 c = sym (dated (c .before .before .before) ∙ simp (c .if3 .taken))

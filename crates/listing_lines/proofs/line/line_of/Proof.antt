@@ -1,5 +1,4 @@
 use borrow.Author.Needs.{needs}
-use lib.Dec.{lit<}
 use mir.Syntax.{w16}
 use mir.Val.{SFits}
 use mir.Facts.{toZ-ofZ}

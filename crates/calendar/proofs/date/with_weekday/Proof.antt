@@ -2,9 +2,9 @@ use borrow.Author.Needs.{needs, sfits-of}
 use mir.Syntax.{w16}
 use mir.Val.{SFits}
 use mir.Facts.{toZ-ofZ}
-use Rattle.elv_dcf7000.specs.Elv.{withWeekday}
-use Rattle.elv_dcf7000.proofs.with_weekday.Statement.{statement}
-use Rattle.elv_dcf7000.proofs.with_weekday.Tie as tie
+use Rattle.calendar.specs.Weekday.{withWeekday}
+use Rattle.calendar.proofs.date.with_weekday.Statement.{statement}
+use Rattle.calendar.proofs.date.with_weekday.Tie as tie
 
 offset-fits : (c : tie.Start) → SFits w16 (c .args .t .«utc_offset»)
 offset-fits c = search sfits-of

@@ -22,18 +22,19 @@ either : (t : Bool) (a b n : ℕ) → a < n → b < n → mag (cond t (negsuc a)
 either true a b n h k = h
 either false a b n h k = k
 
-pub difference-size : (a : ℕ) (z : ℤ) (n : ℕ) → a + suc (mag z) < n → mag (pos a -ℤ z) < n
-difference-size a (pos zero) n h = omega arith
-difference-size a (pos (suc b)) n h = either (ltb a (suc b)) (suc b - suc a) (a - suc b) n (omega arith) (omega arith)
-difference-size a (negsuc b) n h = omega arith
+pub difference-magnitude : (a : ℕ) (z : ℤ) (n : ℕ) → a + suc (mag z) < n → mag (pos a -ℤ z) < n
+difference-magnitude a (pos zero) n h = omega arith
+difference-magnitude a (pos (suc b)) n h =
+    either (ltb a (suc b)) (suc b - suc a) (a - suc b) n (omega arith) (omega arith)
+difference-magnitude a (negsuc b) n h = omega arith
 
-negated-size : (n : ℕ) → mag (negℤ (pos n)) ≤ n
-negated-size zero = omega arith
-negated-size (suc n) = omega arith
+negated-magnitude : (n : ℕ) → mag (negℤ (pos n)) ≤ n
+negated-magnitude zero = omega arith
+negated-magnitude (suc n) = omega arith
 
-pub product-size : (k : ℕ) (z : ℤ) → mag (pos k *ℤ z) ≤ k * suc (mag z)
-product-size k (pos n) = mul-le-mul-left k (omega arith)
-product-size k (negsuc n) = negated-size (k * suc n)
+pub product-magnitude : (k : ℕ) (z : ℤ) → mag (pos k *ℤ z) ≤ k * suc (mag z)
+product-magnitude k (pos n) = mul-le-mul-left k (omega arith)
+product-magnitude k (negsuc n) = negated-magnitude (k * suc n)
 
 -- a less z, with a multiple of 1,440 above z's size added, is above zero and has the same remainder
 pub record Shifted (a : ℕ) (z : ℤ) : Type 0 where

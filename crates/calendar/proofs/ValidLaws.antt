@@ -63,9 +63,9 @@ valid t h =
     }
 
 -- the year from 1970 to 2069 that ends in the last two digits of one of these years is that year
-pub year-back : (y : ℕ) → 1970 ≤ y → y ≤ 2069 → fullYear (y % 100) ≡ y
+pub full-year-last-two : (y : ℕ) → 1970 ≤ y → y ≤ 2069 → fullYear (y % 100) ≡ y
 unfolding fullYear
-year-back y first last = omega arith
+full-year-last-two y first last = omega arith
 
 -- the offsets of receivers that know UTC, CET and CEST
 pub zone-in-range : (utc summer : Bool) → offsetInRange (cond utc (pos 0) (cond summer (pos 120) (pos 60))) ≡ true

@@ -1,5 +1,5 @@
 -- Laws of numbers and the readings that they stand for, and the main results.
 pub mod RangeLaws
-pub mod BackLaws
-pub mod ThereLaws
+pub mod FitsLaws
+pub mod NumbersLaws
 pub mod Theorems

@@ -9,27 +9,28 @@ use Rattle.meinberg_gps.specs.declared.GpsTime.{GpsTime}
 use Rattle.dcf77.specs.declared.MinuteTime.{MinuteTime}
 use Rattle.clock_numbers.specs.Numbers.{timeNumbers, gpsNumbers, minuteNumbers}
 use Rattle.clock_fields.specs.Ranges.{timeOf, gpsOf, minuteOf}
-use Rattle.clock_fields.specs.Held.{Holds, HoldsPosition}
-use Rattle.clock_fields.proofs.BackLaws as back
-use Rattle.clock_fields.proofs.ThereLaws as there
+use Rattle.clock_fields.specs.Fits.{FitsClockTime, FitsPosition}
+use Rattle.clock_fields.proofs.FitsLaws as fits
+use Rattle.clock_fields.proofs.NumbersLaws as numbers
 
 -- the numbers of a reading are that reading again
-pub time-numbers : (t : ClockTime) → Holds t → timeOf (timeNumbers t) ≡ accepted t
-time-numbers = back.time-back
+pub time-numbers : (t : ClockTime) → FitsClockTime t → timeOf (timeNumbers t) ≡ accepted t
+time-numbers = fits.time-numbers
 
-pub gps-numbers : (g : GpsTime) → Holds (g .time) → HoldsPosition (g .position) → gpsOf (gpsNumbers g) ≡ accepted g
-gps-numbers = back.gps-back
+pub gps-numbers : (g : GpsTime) → FitsClockTime (g .time) → FitsPosition (g .position)
+    → gpsOf (gpsNumbers g) ≡ accepted g
+gps-numbers = fits.gps-numbers
 
-pub minute-numbers : (a : MinuteTime) → Holds (a .time) → a .detail .«first_marks» ≤ 65535
+pub minute-numbers : (a : MinuteTime) → FitsClockTime (a .time) → a .detail .«first_marks» ≤ 65535
     → minuteOf (minuteNumbers a) ≡ accepted a
-minute-numbers = back.minute-back
+minute-numbers = fits.minute-numbers
 
 -- numbers that are taken for a reading are that reading's, and no others are
 pub numbers-time : (z : List ℤ) (t : ClockTime) → timeOf z ≡ accepted t → timeNumbers t ≡ z
-numbers-time = there.numbers-time
+numbers-time = numbers.numbers-time
 
 pub numbers-gps : (z : List ℤ) (g : GpsTime) → gpsOf z ≡ accepted g → gpsNumbers g ≡ z
-numbers-gps = there.numbers-gps
+numbers-gps = numbers.numbers-gps
 
 pub numbers-minute : (z : List ℤ) (a : MinuteTime) → minuteOf z ≡ accepted a → minuteNumbers a ≡ z
-numbers-minute = there.numbers-minute
+numbers-minute = numbers.numbers-minute

@@ -1,3 +1,3 @@
 -- The definitions that the contracts cite.
 pub mod Ranges
-pub mod Held
+pub mod Fits

@@ -10,7 +10,7 @@ use mir.Val.{toZ, ofZ, hbits}
 use mir.Facts.{toZ-ofZ}
 use borrow.Author.Needs.{sfits-of}
 use borrow.Author.Tests.{lt-ltb, le-ltb}
-use Rattle.clock_time.specs.Called.{called, left}
+use Rattle.clock_time.specs.Called.{called, calledMemory}
 use Rattle.clock_numbers.specs.Numbers.{putNumbers}
 
 -- ---- what the machine holds for a number that fits
@@ -23,11 +23,11 @@ module _ (w : Width) {z : ℤ} (h : mag z < 2 ^ hbits w) where
 
 -- ---- into lent memory
 module _ (numbers lent : List ℤ) where
-  pub put-no-room : length lent < length numbers → called 20 lent ≡ left (putNumbers numbers lent)
+  pub put-no-room : length lent < length numbers → called 20 lent ≡ calledMemory (putNumbers numbers lent)
   unfolding putNumbers
   put-no-room h = simp (lt-ltb _ _ h)
 
   pub put-room : length numbers ≤ length lent → (x : List ℤ) → x ≡ numbers ++ drop (length numbers) lent
-      → called 0 x ≡ left (putNumbers numbers lent)
+      → called 0 x ≡ calledMemory (putNumbers numbers lent)
   unfolding putNumbers
   put-room h x e = simp (le-ltb _ _ h, e)

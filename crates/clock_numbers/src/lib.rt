@@ -13,7 +13,7 @@ ghost use lib.ListN.{length, take, drop};
 ghost use Rattle.layout.specs.Text.{readAnswer};
 ghost use Rattle.meinberg_gps.specs.Gps.{gpsAnswer};
 ghost use Rattle.dcf77.specs.Minute.{minuteAnswer};
-ghost use Rattle.clock_time.specs.Called.{called, left};
+ghost use Rattle.clock_time.specs.Called.{called, calledMemory};
 ghost use Rattle.clock_numbers.specs.Numbers.{flagNumber, timeNumbers, gpsNumbers, minuteNumbers, putNumbers};
 ghost use Rattle.clock_numbers.specs.Numbers.{putAnswer};
 
@@ -75,7 +75,9 @@ fn copy_to_front(numbers: &[i32], fields: &mut [i32])
 
 // Puts numbers in front of those lent. Refuses with LentMemory (20) if there is no room.
 fn put_numbers(numbers: &[i32], fields: &mut [i32]) -> u8
-    ensures { λ r. ⌜ called r (now (fields .exit)) ≡ left (putNumbers (now (numbers .entry)) (now (fields .entry))) ⌝ }
+    ensures { λ r. ⌜
+        called r (now (fields .exit)) ≡ calledMemory (putNumbers (now (numbers .entry)) (now (fields .entry)))
+        ⌝ }
 {
     if fields.len() < numbers.len() {
         return 20;
@@ -89,7 +91,7 @@ fn put_with(t: ClockTime, a: i32, b: i32, c: i32, count: usize, fields: &mut [i3
     requires { ⌜ count ≤ 17 ⌝ }
     ensures { λ r. ⌜
         called r (now (fields .exit))
-        ≡ left (putNumbers (take count (timeNumbers t ++ (a ∷ b ∷ c ∷ []))) (now (fields .entry)))
+        ≡ calledMemory (putNumbers (take count (timeNumbers t ++ (a ∷ b ∷ c ∷ []))) (now (fields .entry)))
         ⌝ }
 {
     let numbers = numbers_with(t, a, b, c);
@@ -97,7 +99,7 @@ fn put_with(t: ClockTime, a: i32, b: i32, c: i32, count: usize, fields: &mut [i3
 }
 
 fn put_position(g: GpsTime, fields: &mut [i32]) -> u8
-    ensures { λ r. ⌜ called r (now (fields .exit)) ≡ left (putNumbers (gpsNumbers g) (now (fields .entry))) ⌝ }
+    ensures { λ r. ⌜ called r (now (fields .exit)) ≡ calledMemory (putNumbers (gpsNumbers g) (now (fields .entry))) ⌝ }
 {
     let t = g.time;
     let p = g.position;
@@ -105,7 +107,9 @@ fn put_position(g: GpsTime, fields: &mut [i32]) -> u8
 }
 
 fn put_detail(a: MinuteTime, fields: &mut [i32]) -> u8
-    ensures { λ r. ⌜ called r (now (fields .exit)) ≡ left (putNumbers (minuteNumbers a) (now (fields .entry))) ⌝ }
+    ensures { λ r. ⌜
+        called r (now (fields .exit)) ≡ calledMemory (putNumbers (minuteNumbers a) (now (fields .entry)))
+        ⌝ }
 {
     let t = a.time;
     let d = a.detail;
@@ -123,7 +127,7 @@ fn put_detail(a: MinuteTime, fields: &mut [i32]) -> u8
 // LentMemory (20) if there is no room.
 pub fn put_time(answer: ReadAnswer, fields: &mut [i32]) -> u8
     ensures { λ r. ⌜
-        called r (now (fields .exit)) ≡ left (putAnswer timeNumbers (readAnswer answer) (now (fields .entry)))
+        called r (now (fields .exit)) ≡ calledMemory (putAnswer timeNumbers (readAnswer answer) (now (fields .entry)))
         ⌝ }
 {
     match answer {
@@ -135,7 +139,7 @@ pub fn put_time(answer: ReadAnswer, fields: &mut [i32]) -> u8
 // The same for the 17 numbers of a GPS string.
 pub fn put_gps(answer: GpsAnswer, fields: &mut [i32]) -> u8
     ensures { λ r. ⌜
-        called r (now (fields .exit)) ≡ left (putAnswer gpsNumbers (gpsAnswer answer) (now (fields .entry)))
+        called r (now (fields .exit)) ≡ calledMemory (putAnswer gpsNumbers (gpsAnswer answer) (now (fields .entry)))
         ⌝ }
 {
     match answer {
@@ -147,7 +151,8 @@ pub fn put_gps(answer: GpsAnswer, fields: &mut [i32]) -> u8
 // The same for the 16 numbers of a minute.
 pub fn put_minute(answer: MinuteAnswer, fields: &mut [i32]) -> u8
     ensures { λ r. ⌜
-        called r (now (fields .exit)) ≡ left (putAnswer minuteNumbers (minuteAnswer answer) (now (fields .entry)))
+        called r (now (fields .exit))
+        ≡ calledMemory (putAnswer minuteNumbers (minuteAnswer answer) (now (fields .entry)))
         ⌝ }
 {
     match answer {

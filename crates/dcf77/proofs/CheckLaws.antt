@@ -55,7 +55,7 @@ module _ (k : Check) (ks : List Check) {t : Bool} {n : ℕ} (e : t ≡ k .fails)
 pub ruleset first = (first-none, first-here, first-later)
 
 -- what the answer to a run still depends on: these checks, and the minute if none of them fails
-pub record Left (m : List ℕ) (ks : List Check) (a : MinuteTime) : Type 0 where
+pub record Remaining (m : List ℕ) (ks : List Check) (a : MinuteTime) : Type 0 where
   pub says : readMinute m ≡ checked ks a
 
 by-first : (ks more : List Check) (a : MinuteTime) → within ks ≡ true
@@ -75,16 +75,16 @@ by-first (k ∷ ks) more a w =
     go false named later = later
 
 -- e is the number of the first of some checks that fails: the code stops there, or these checks have passed
-module _ {m : List ℕ} (ks more : List Check) {a : MinuteTime} (left : Left m (ks ++ more) a) {e : ℕ}
+module _ {m : List ℕ} (ks more : List Check) {a : MinuteTime} (remaining : Remaining m (ks ++ more) a) {e : ℕ}
     (f : e ≡ firstNumber ks) (known : within ks ≡ true)
   where
     by-number : readMinute m ≡ cond (eqb e 0) (checked more a) (refused e)
-    by-number = rw f (left .says ∙ by-first ks more a known)
+    by-number = rw f (remaining .says ∙ by-first ks more a known)
 
     pub stops : (e ≡ 0 → ⊥) → readMinute m ≡ refused e
     stops wrong = rw (ne-eqb e 0 wrong) at by-number
 
-    pub passes : e ≡ 0 → Left m more a
+    pub passes : e ≡ 0 → Remaining m more a
     passes right = record { says = rw (eq-eqb e 0 right) at by-number }
 
 pub number-known : (ks : List Check) (e : ℕ) → e ≡ firstNumber ks → (e ≡ 0 → ⊥) → within ks ≡ true
@@ -112,10 +112,10 @@ unfolding timeExists
 no-second hour minute offset = and-true (ltb hour 24 && ltb minute 60)
 
 -- the checks of a run of 59 or 60 sure marks
-pub run-left : {m : List ℕ} {n h d : ℕ} → Numbers m n h d → not (eqb (length m) 59 || eqb (length m) 60) ≡ false
-    → Left m ((startChecks m ++ numberChecks n h d) ++ fieldChecks m (minuteFields m)) (minuteFields m)
+pub run-remaining : {m : List ℕ} {n h d : ℕ} → Numbers m n h d → not (eqb (length m) 59 || eqb (length m) 60) ≡ false
+    → Remaining m ((startChecks m ++ numberChecks n h d) ++ fieldChecks m (minuteFields m)) (minuteFields m)
 unfolding readMinute minuteChecks minuteFields announced
-run-left {m} {n} {h} {d} k long =
+run-remaining {m} {n} {h} {d} k long =
     record {
       says =
           simp (

@@ -6,11 +6,11 @@ pub mod SaysLaws
 pub mod LinesLaws
 pub mod AcceptLaws
 pub mod BitLaws
-pub mod BackLaws
+pub mod FieldsLaws
 pub mod SameLaws
 pub mod FitLaws
 pub mod TextLaws
 pub mod WriteLaws
 pub mod SpellLaws
-pub mod LineLaws
+pub mod SixtyMarksLaws
 pub mod Theorems

@@ -104,61 +104,61 @@ module _ (a : MinuteTime) (w : Fits a) where
         decade = binary-bits 4 _ (omega arith);
       }
 
-  minute-back : twoDigits 21 3 (minuteText a) ≡ a .time .minute
-  minute-back = two-digits (minuteText a) 21 3 _ (spelled .minute) (spelled .minuteTens)
+  minute-text : twoDigits 21 3 (minuteText a) ≡ a .time .minute
+  minute-text = two-digits (minuteText a) 21 3 _ (spelled .minute) (spelled .minuteTens)
 
-  hour-back : twoDigits 29 2 (minuteText a) ≡ a .time .hour
-  hour-back = two-digits (minuteText a) 29 2 _ (spelled .hour) (spelled .hourTens)
+  hour-text : twoDigits 29 2 (minuteText a) ≡ a .time .hour
+  hour-text = two-digits (minuteText a) 29 2 _ (spelled .hour) (spelled .hourTens)
 
-  day-back : twoDigits 36 2 (minuteText a) ≡ a .time .day
-  day-back = two-digits (minuteText a) 36 2 _ (spelled .day) (spelled .dayTens)
+  day-text : twoDigits 36 2 (minuteText a) ≡ a .time .day
+  day-text = two-digits (minuteText a) 36 2 _ (spelled .day) (spelled .dayTens)
 
-  month-back : twoDigits 45 1 (minuteText a) ≡ a .time .month
-  month-back = two-digits (minuteText a) 45 1 _ (spelled .month) (spelled .monthTens)
+  month-text : twoDigits 45 1 (minuteText a) ≡ a .time .month
+  month-text = two-digits (minuteText a) 45 1 _ (spelled .month) (spelled .monthTens)
 
-  year-back : fullYear (twoDigits 50 4 (minuteText a)) ≡ a .time .year
+  year-text : fullYear (twoDigits 50 4 (minuteText a)) ≡ a .time .year
   unfolding twoDigits fullYear
-  year-back = rw (spelled .year, spelled .decade) (omega (arith, date .year-least, date .year-most))
+  year-text = rw (spelled .year, spelled .decade) (omega (arith, date .year-least, date .year-most))
 
-  flags-back : (long 15 (minuteText a) ≡ a .time .«alternate_antenna»)
+  flags-text : (long 15 (minuteText a) ≡ a .time .«alternate_antenna»)
       × (long 16 (minuteText a) ≡ a .time .«dst_change_announced»)
       × (long 17 (minuteText a) ≡ a .time .«summer_time»)
       × (long 19 (minuteText a) ≡ a .time .«leap_second_announced»)
   unfolding minuteText firstMarks bits
-  flags-back = (mark-flag _, mark-flag _, mark-flag _, mark-flag _)
+  flags-text = (mark-flag _, mark-flag _, mark-flag _, mark-flag _)
 
-  length-back : eqb (length (minuteText a)) 60 ≡ a .detail .sixty
+  sixty-text : eqb (length (minuteText a)) 60 ≡ a .detail .sixty
   unfolding minuteText firstMarks bits
-  length-back = go (a .detail .sixty)
+  sixty-text = go (a .detail .sixty)
     where
       go : (t : Bool) → eqb (length (firstMarks a ++ cond t (0 ∷ []) [])) 60 ≡ t
       go true = refl
       go false = refl
 
-  pub fields-back : minuteFields (minuteText a) ≡ a
+  pub fields-text : minuteFields (minuteText a) ≡ a
   unfolding minuteFields announced
-  fields-back =
-      let zone = ap (λ (s : Bool). cond s (pos 120) (pos 60)) (flags-back .2) ∙ sym (w .zone) in
+  fields-text =
+      let zone = ap (λ (s : Bool). cond s (pos 120) (pos 60)) (flags-text .2) ∙ sym (w .zone) in
       λ i.
       record {
         time =
             record {
-              year = year-back i;
-              month = month-back i;
-              day = day-back i;
+              year = year-text i;
+              month = month-text i;
+              day = day-text i;
               weekday = spelled .weekday i;
-              hour = hour-back i;
-              minute = minute-back i;
+              hour = hour-text i;
+              minute = minute-text i;
               second = sym (w .second) i;
               «utc_offset» = zone i;
               unsynchronised = sym (w .synchronised) i;
               unverified = sym (w .verified) i;
-              «summer_time» = flags-back .2 i;
-              «dst_change_announced» = flags-back .1 i;
-              «leap_second_announced» = flags-back .3 i;
-              «alternate_antenna» = flags-back .0 i;
+              «summer_time» = flags-text .2 i;
+              «dst_change_announced» = flags-text .1 i;
+              «leap_second_announced» = flags-text .3 i;
+              «alternate_antenna» = flags-text .0 i;
             };
-        detail = record { «first_marks» = spelled .marks i; sixty = length-back i };
+        detail = record { «first_marks» = spelled .marks i; sixty = sixty-text i };
       }
 
   -- ---- the rules
@@ -177,12 +177,12 @@ module _ (a : MinuteTime) (w : Fits a) where
       let t = a .time in
       let years = leb 1970 (t .year) && leb (t .year) 2069 in
       let k = both years (dateExists (t .year) (t .month) (t .day)) (w .supported-date) in
-      rw (year-back, month-back, day-back) (k .1)
+      rw (year-text, month-text, day-text) (k .1)
 
   time-exists : let t = announced (minuteText a) in
       timeExists (t .hour) (t .minute) (t .second) (t .«utc_offset») ≡ true
   unfolding announced timeExists
-  time-exists = simp (hour-back, minute-back, lt-ltb _ _ (w .hour), lt-ltb _ _ (w .minute))
+  time-exists = simp (hour-text, minute-text, lt-ltb _ _ (w .hour), lt-ltb _ _ (w .minute))
 
   leap-holds : length (minuteText a) ≡ 60
       → (getD (minuteText a) 19 0 ≡ 1) × (getD (minuteText a) 59 0 ≡ 0) × (announced (minuteText a) .minute ≡ 0)
@@ -195,7 +195,7 @@ module _ (a : MinuteTime) (w : Fits a) where
           × (twoDigits 21 3 (minuteText a) ≡ 0)
       go true e h =
           let both-hold = both (a .time .«leap_second_announced») _ (not-false _ h) in
-          (ap mark (both-hold .0), refl, minute-back ∙ eqb-true _ _ (both-hold .1))
+          (ap mark (both-hold .0), refl, minute-text ∙ eqb-true _ _ (both-hold .1))
       go false e h = absurd (omega arith)
 
   opened : (getD (minuteText a) 0 0 ≡ 0) × (getD (minuteText a) 20 0 ≡ 1)

@@ -7,7 +7,7 @@ use mathlib.Core.List.{List}
 use Rattle.clock_time.specs.Errors.{accepted, refused}
 use Rattle.clock_time.specs.Order.{Gives}
 use Rattle.clock_time.specs.Faithful.{Faithful}
-use Rattle.clock_time.proofs.BackLaws as writing
+use Rattle.clock_time.proofs.FaithfulLaws as writing
 use Rattle.clock_time.proofs.OrderLaws.{refused-exactly}
 use Rattle.calendar.specs.UnixTime.{isReading}
 use Rattle.calendar.specs.Rules.{ReadingRules}
@@ -20,7 +20,7 @@ use Rattle.dcf77.specs.declared.MinuteTime.{MinuteTime}
 use Rattle.dcf77.proofs.SaysLaws.{fields-say, said-fields}
 use Rattle.dcf77.proofs.LinesLaws.{agrees}
 use Rattle.dcf77.proofs.AcceptLaws.{read-exactly, read-valid}
-use Rattle.dcf77.proofs.BackLaws.{text-read}
+use Rattle.dcf77.proofs.FieldsLaws.{text-read}
 use Rattle.dcf77.proofs.SameLaws.{sameMinute-refl, sameMinute-true}
 use Rattle.dcf77.proofs.WriteLaws.{written-exactly}
 

@@ -11,7 +11,7 @@ use borrow.Author.Tests.{eq-eqb, lt-ltb}
 use Rattle.clock_time.specs.Errors.{Answer, accepted, refused}
 use Rattle.clock_time.specs.Same.{eqℤ}
 use Rattle.clock_time.specs.Writing.{isAccepted, readsBack}
-use Rattle.clock_time.proofs.BackLaws.{back-reads}
+use Rattle.clock_time.proofs.FaithfulLaws.{read-text}
 use Rattle.clock_time.proofs.ExactLaws.{same-tests}
 use Rattle.dcf77.specs.Marks.{long, binary, twoDigits}
 use Rattle.dcf77.specs.Minute.{announced, minuteFields, readMinute, minuteText, sameMinute}
@@ -19,10 +19,10 @@ use Rattle.dcf77.specs.Writable.{fieldsRepresentable, minuteRepresentabl
 use Rattle.dcf77.specs.declared.MinuteTime.{MinuteTime}
 use Rattle.dcf77.proofs.MarkLaws.{small-sure, binary-below}
 use Rattle.dcf77.proofs.AcceptLaws.{KeepsRules, leap-passes, read-keeps, keeps-read, keeps-representable}
-use Rattle.dcf77.proofs.BackLaws.{text-read}
+use Rattle.dcf77.proofs.FieldsLaws.{text-read}
 use Rattle.dcf77.proofs.SameLaws.{sameMinute-refl, sameMinute-true}
 use Rattle.dcf77.proofs.FitLaws.{fits}
-use Rattle.dcf77.proofs.TextLaws.{fields-back, text-keeps}
+use Rattle.dcf77.proofs.TextLaws.{fields-text, text-keeps}
 
 -- ---- what is read passes
 zone-passes : (summer : Bool)
@@ -54,27 +54,30 @@ is-read : (r : Answer MinuteTime) (a : MinuteTime) → isAccepted sameMinute r a
 is-read (accepted b) a h = rw (sameMinute-true b a h)
 is-read (refused k) a h = absurd (false≢true h)
 
-back-writable : (a : MinuteTime) → readsBack readMinute minuteText sameMinute a ≡ true → minuteRepresentable a ≡ true
+readsBack-representable : (a : MinuteTime) → readsBack readMinute minuteText sameMinute a ≡ true
+    → minuteRepresentable a ≡ true
 unfolding readsBack
-back-writable a h =
+readsBack-representable a h =
     let w = read-keeps (minuteText a) a (is-read (readMinute (minuteText a)) a h) in
     rw (w .1) (fields-pass (minuteText a) (w .0))
 
-writable-back : (a : MinuteTime) → minuteRepresentable a ≡ true → readsBack readMinute minuteText sameMinute a ≡ true
+representable-readsBack : (a : MinuteTime) → minuteRepresentable a ≡ true
+    → readsBack readMinute minuteText sameMinute a ≡ true
 unfolding readsBack
-writable-back a h =
+representable-readsBack a h =
     let w = fits a h in
     let read : readMinute (minuteText a) ≡ accepted a =
-    rw (keeps-read (minuteText a) (text-keeps a w), fields-back a w) in
+    rw (keeps-read (minuteText a) (text-keeps a w), fields-text a w) in
     rw read (sameMinute-refl a)
 
 pub reads-representable : (a : MinuteTime) → readsBack readMinute minuteText sameMinute a ≡ minuteRepresentable a
-reads-representable a = same-tests _ (minuteRepresentable a) (back-writable a, writable-back a) (λ h. h, λ h. h)
+reads-representable a =
+    same-tests _ (minuteRepresentable a) (readsBack-representable a, representable-readsBack a) (λ h. h, λ h. h)
 
 pub written-exactly : (m : List ℕ) (a : MinuteTime)
     → (readMinute m ≡ accepted a) ↔ ((minuteRepresentable a ≡ true) × (minuteText a ≡ m))
 unfolding readsBack
 written-exactly m a = (
   λ h. let e = text-read m a h in (sym (reads-representable a) ∙ rw (e, h) (sameMinute-refl a), e),
-  λ w. rw (w .1) at (back-reads readMinute minuteText sameMinute sameMinute-true a (reads-representable a ∙ w .0)),
+  λ w. rw (w .1) at (read-text readMinute minuteText sameMinute sameMinute-true a (reads-representable a ∙ w .0)),
 )

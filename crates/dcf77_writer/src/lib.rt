@@ -12,8 +12,8 @@ mod writing;
 pub fn write_minute(a: MinuteTime, out: &mut [u8]) -> WriteAnswer
     ensures { λ r. ⌜ written r (now (out .exit)) ≡ writeMinute a (now (out .entry)) ⌝ }
 {
-    let line = writing::line_of(a);
+    let marks = writing::sixty_marks(a);
     let detail = a.detail;
     let count = 59 + detail.sixty as usize;
-    writing::write_run(a, &line[..count], out)
+    writing::write_run(a, &marks[..count], out)
 }

@@ -79,19 +79,19 @@ fn spell_run(a: MinuteTime) -> u64
 fn put_bits(n: u64) -> [u8; 60]
     ensures { λ r. ⌜ r ≡ bits 60 n ⌝ }
 {
-    let mut line = [0u8; 60];
+    let mut marks = [0u8; 60];
     let mut rest = n;
     let mut i = 0;
     while i < 60 {
-        line[i] = (rest % 2) as u8;
+        marks[i] = (rest % 2) as u8;
         rest = rest / 2;
         i += 1;
     }
-    line
+    marks
 }
 
 // The 59 marks of a minute, and a short one after them.
-pub(crate) fn line_of(a: MinuteTime) -> [u8; 60]
+pub(crate) fn sixty_marks(a: MinuteTime) -> [u8; 60]
     ensures { λ r. ⌜ r ≡ firstMarks a ++ (0 ∷ []) ⌝ }
 {
     put_bits(spell_run(a))

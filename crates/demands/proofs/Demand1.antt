@@ -10,7 +10,7 @@ use lib.Dec.{leb, ltb}
 use lib.ListN.{length}
 use lib.IntN.{ℤ}
 use Rattle.clock_time.specs.Errors.{Check, given, checked}
-use Rattle.clock_time.specs.Called.{answered, left, counted}
+use Rattle.clock_time.specs.Called.{calledAnswer, calledMemory, calledBoth}
 use Rattle.clock_time.specs.Writing.{writing}
 use Rattle.clock_time.specs.declared.ClockTime.{ClockTime}
 use Rattle.gregorian.specs.Date.{supportedDate, dayNumber, weekdayOf}
@@ -47,7 +47,7 @@ use Rattle.time_string.specs.Kind.{kindOf, readAs}
 use Rattle.time_string.specs.declared.Kind.{Kind}
 use Rattle.time_string.specs.declared.Kind.the-variants.{Standard, Pzf, Gps, Elv}
 use Rattle.recording.specs.Recording.{rule, unfit, outcomeAt, fillOutcomes, recorded, correctionChecks, correctMark}
-use Rattle.listing_lines.specs.Line.{lineOf, writeLine}
+use Rattle.listing_lines.specs.Line.{timeLine, writeLine}
 use Rattle.listing_lines.specs.Totals.{totalsLine, writeTotals}
 use Rattle.listing_lines.specs.declared.Totals.{Totals}
 use Rattle.clock_fields.specs.Ranges.{timeRanges, gpsRanges, minuteRanges, fits, fitsAll, timeFrom, gpsFrom, minuteFrom}
@@ -64,7 +64,7 @@ use Rattle.demands.specs.Lines.{fillLines, correctionLines, instantLines
 use Rattle.demands.specs.Lines.{readMinuteLines, instantLinesOf, feedLines}
 use Rattle.demands.proofs.Checks.{checksAs, readingAs, kindChecks, readChecks, readMinuteChecks}
 use Rattle.demands.proofs.OrderLaws.{ordered, by-tests, keeps, decided, agree-tests, positive-append}
-use Rattle.demands.proofs.OrderLaws.{from-answered, from-left, from-counted}
+use Rattle.demands.proofs.OrderLaws.{from-answer, from-memory, from-both}
 use Rattle.demands.proofs.WriterLaws.{settled, writer-keeps}
 use Rattle.demands.proofs.NumbersLaws.{from-decided, minute-settled}
 use Rattle.demands.proofs.EntryLaws as entry
@@ -177,17 +177,17 @@ unfolding readPosition
 read-position s = ordered (positionOf s) (given 9 (positionFault s) ∷ []) _ (positions.agrees s) _ refl
 
 -- ---- from C: the status is 0 or the number of the refusal, which leaves all that was lent
-pub c-kind : (old : ℕ) (s : List ℕ) → CallRefusesAndKeeps (kindLines s) (1 ∷ []) old (answered old (kindNumberOf s))
+pub c-kind : (old : ℕ) (s : List ℕ) → CallRefusesAndKeeps (kindLines s) (1 ∷ []) old (calledAnswer old (kindNumberOf s))
 c-kind old s =
-    from-answered _ _ refl old (kindNumberOf s)
+    from-answer _ _ refl old (kindNumberOf s)
     (ordered _ (kindChecks s) (kindLines s) (agrees.kind-agrees s) (kindNumberOf s) (entry.kind-number-checks s))
 
 -- 1 stands twice, for an unknown kind and for a wrong length
 pub c-read : (n : ℕ) (s : List ℕ) (fields : List ℤ) →
     CallRefusesAndKeeps (readLines n s fields) (1 ∷ textOrder (ownNumbers (namedKind n)) ++ (20 ∷ [])) fields
-    (left (readInto n s fields))
+    (calledMemory (readInto n s fields))
 c-read n s fields =
-    from-left (readLines n s fields) _
+    from-memory (readLines n s fields) _
     (positive-append (textOrder (ownNumbers (namedKind n))) (20 ∷ []) (agrees.text-positive (namedKind n)) refl) fields
     (readInto n s fields)
     (rw (← (agrees.read-numbers n s fields))
@@ -195,43 +195,44 @@ c-read n s fields =
     (decided (readChecks n s fields) _ _ _ _ _ (agrees.read-agrees n s fields) (entry.read-checks n s fields))))
 
 pub c-write : (n : ℕ) (z : List ℤ) (d : List ℕ) (old : ℕ) →
-    CallRefusesAndKeeps (writeLines n z d) (1 ∷ 23 ∷ 20 ∷ []) (d, old) (counted old (writeFrom n z d))
-c-write n z d old = from-counted _ _ refl d _ (write-string n z d) old
+    CallRefusesAndKeeps (writeLines n z d) (1 ∷ 23 ∷ 20 ∷ []) (d, old) (calledBoth old (writeFrom n z d))
+c-write n z d old = from-both _ _ refl d _ (write-string n z d) old
 
 pub c-read-minute : (m : List ℕ) (fields : List ℤ) →
-    CallRefusesAndKeeps (readMinuteLines m fields) (minuteOrder ++ (20 ∷ [])) fields (left (readMinuteInto m fields))
+    CallRefusesAndKeeps (readMinuteLines m fields) (minuteOrder ++ (20 ∷ [])) fields
+    (calledMemory (readMinuteInto m fields))
 unfolding minuteLines
 c-read-minute m fields =
-    from-left _ _ refl fields _
+    from-memory _ _ refl fields _
     (keeps
     (decided (readMinuteChecks m fields) _ _ _ _ _ (agrees.read-minute-agrees m fields)
     (entry.read-minute-checks m fields)))
 
 pub c-write-minute : (z : List ℤ) (d : List ℕ) (old : ℕ) →
     CallRefusesAndKeeps (writerLines (λ m. AcceptsMinuteNumbers m z) d) (23 ∷ 20 ∷ []) (d, old)
-    (counted old (writeMinuteFrom z d))
-c-write-minute z d old = from-counted _ _ refl d _ (write-marks z d) old
+    (calledBoth old (writeMinuteFrom z d))
+c-write-minute z d old = from-both _ _ refl d _ (write-marks z d) old
 
 pub c-unix-time : (old : ℤ) (z : List ℤ) →
-    CallRefusesAndKeeps (instantLinesOf z) (23 ∷ []) old (answered old (unixTimeOf z))
+    CallRefusesAndKeeps (instantLinesOf z) (23 ∷ []) old (calledAnswer old (unixTimeOf z))
 c-unix-time old z =
-    from-answered _ _ refl old (unixTimeOf z)
+    from-answer _ _ refl old (unixTimeOf z)
     (ordered (instantOf (timeFrom z)) (given 23 (not (instants.ofValid z)) ∷ []) (instantLinesOf z)
     (instants.numbers-agree z) (unixTimeOf z) (instants.numbers-checks z))
 
 pub c-outcome-at : (old : ℕ) (marks : List ℕ) (place : ℕ) →
-    CallRefusesAndKeeps (outcomeLines marks place) (20 ∷ 21 ∷ []) old (answered old (outcomeAt marks place))
-c-outcome-at old marks place = from-answered _ _ refl old _ (outcome-at marks place)
+    CallRefusesAndKeeps (outcomeLines marks place) (20 ∷ 21 ∷ []) old (calledAnswer old (outcomeAt marks place))
+c-outcome-at old marks place = from-answer _ _ refl old _ (outcome-at marks place)
 
 pub c-fill-outcomes : (marks outcomes : List ℕ) →
-    CallRefusesAndKeeps (fillLines marks outcomes) (20 ∷ []) outcomes (left (fillOutcomes marks outcomes))
-c-fill-outcomes marks outcomes = from-left _ _ refl outcomes _ (fill-outcomes marks outcomes)
+    CallRefusesAndKeeps (fillLines marks outcomes) (20 ∷ []) outcomes (calledMemory (fillOutcomes marks outcomes))
+c-fill-outcomes marks outcomes = from-memory _ _ refl outcomes _ (fill-outcomes marks outcomes)
 
 pub c-correct-mark : (marks outcomes : List ℕ) (place mark old : ℕ) →
     CallRefusesAndKeeps (correctionLines marks outcomes place mark) (20 ∷ 21 ∷ 22 ∷ []) (recorded marks outcomes, old)
-    (counted old (correctMark marks outcomes place mark))
+    (calledBoth old (correctMark marks outcomes place mark))
 c-correct-mark marks outcomes place mark old =
-    from-counted _ _ refl (recorded marks outcomes) _ (correct-mark marks outcomes place mark) old
+    from-both _ _ refl (recorded marks outcomes) _ (correct-mark marks outcomes place mark) old
 
 pub feed : (old : FeedMemory) (s : List ℕ) (limit : ℕ) →
     RefusesAndKeeps (feedLines (old .state)) (20 ∷ []) old (feedInto old s limit)
@@ -240,8 +241,8 @@ feed old s limit =
     keeps (decided (given 20 (ltb (length (old .state)) 68) ∷ []) _ _ _ tt _ (agrees.feed-agrees (old .state)) refl)
 
 pub c-feed : (old : FeedMemory) (s : List ℕ) (limit : ℕ) →
-    CallRefusesAndKeeps (feedLines (old .state)) (20 ∷ []) old (left (feedInto old s limit))
-c-feed old s limit = from-left _ _ refl old (feedInto old s limit) (feed old s limit)
+    CallRefusesAndKeeps (feedLines (old .state)) (20 ∷ []) old (calledMemory (feedInto old s limit))
+c-feed old s limit = from-memory _ _ refl old (feedInto old s limit) (feed old s limit)
 
 -- ---- functions that no user calls, but that refuse: by their own tests. The feed, `list` and the tests of a date, a
 -- time or a byte refuse nothing: their answers have no case for it.
@@ -297,7 +298,7 @@ unfolding writeDigits
 write-digits n k d = write-bytes _ _ d
 
 pub write-line : (t : ClockTime) (d : List ℕ) →
-    RefusesAndKeeps (tests (given 23 (not (isReading t)) ∷ given 20 (ltb (length d) (length (lineOf t))) ∷ []))
+    RefusesAndKeeps (tests (given 23 (not (isReading t)) ∷ given 20 (ltb (length d) (length (timeLine t))) ∷ []))
     (23 ∷ 20 ∷ []) d (writeLine t d)
 unfolding writeLine
 write-line t d = write-bytes _ _ d

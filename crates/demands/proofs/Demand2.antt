@@ -8,7 +8,7 @@ use mathlib.Core.List.{List, _++_}
 use lib.ListN.{length, take, drop}
 use lib.IntN.{ℤ, pos, _*ℤ_}
 use lib.Seq.{take-at}
-use Rattle.clock_time.specs.Called.{called, answered, left, counted}
+use Rattle.clock_time.specs.Called.{called, calledAnswer, calledMemory, calledBoth}
 use Rattle.clock_time.specs.declared.ClockTime.{ClockTime}
 use Rattle.gregorian.specs.Date.{dayNumber, weekdayOf}
 use Rattle.calendar.specs.UnixTime.{instantOf, unixTime}
@@ -117,53 +117,54 @@ read-position = positions.read-position-exactly
 -- ---- from C
 pub c-kind : (old : ℕ) (s : List ℕ)
     → CallAnswersExactly (λ n. (kind : Kind) × (TellsKind s kind × (n ≡ kindNumber kind)))
-    (answered old (kindNumberOf s))
+    (calledAnswer old (kindNumberOf s))
 c-kind old s = reader.call-answers old (kindNumberOf s) (never.kind-0 s) (reader.kind-number-exactly s)
 
 pub c-read : (n : ℕ) (s : List ℕ) (fields : List ℤ)
-    → CallReadsExactly readingNumbers (AcceptsNumbered n s) fields (left (readInto n s fields))
+    → CallReadsExactly readingNumbers (AcceptsNumbered n s) fields (calledMemory (readInto n s fields))
 unfolding readInto
 c-read n s fields = reader.call-reads readingNumbers fields _ (never.read-0 n s) (reader.numbered-exactly n s)
 
 pub c-write : (n : ℕ) (z : List ℤ) (d : List ℕ) (old : ℕ)
-    → CallWritesExactly (λ s. AcceptsNumbers n s z) d (counted old (writeFrom n z d))
+    → CallWritesExactly (λ s. AcceptsNumbers n s z) d (calledBoth old (writeFrom n z d))
 c-write = numbers.call-from-exactly
 
 pub c-read-minute : (m : List ℕ) (fields : List ℤ)
-    → CallReadsExactly minuteNumbers (AcceptsMinute m) fields (left (readMinuteInto m fields))
+    → CallReadsExactly minuteNumbers (AcceptsMinute m) fields (calledMemory (readMinuteInto m fields))
 unfolding readMinuteInto
 c-read-minute m fields = reader.call-reads minuteNumbers fields (readMinute m) (never.minute-0 m) (read-minute m)
 
 pub c-write-minute : (z : List ℤ) (d : List ℕ) (old : ℕ)
-    → CallWritesExactly (λ m. AcceptsMinuteNumbers m z) d (counted old (writeMinuteFrom z d))
+    → CallWritesExactly (λ m. AcceptsMinuteNumbers m z) d (calledBoth old (writeMinuteFrom z d))
 c-write-minute z d old = call-writes-exactly (numbers.minute-settled z d) old
 
-pub c-unix-time : (old : ℤ) (z : List ℤ) → CallAnswersExactly (InstantOfNumbers z) (answered old (unixTimeOf z))
+pub c-unix-time : (old : ℤ) (z : List ℤ) → CallAnswersExactly (InstantOfNumbers z) (calledAnswer old (unixTimeOf z))
 c-unix-time old z = reader.call-answers old (unixTimeOf z) (never.instant-0 z) (instants.numbers-exactly z)
 
 -- "Written back, an accepted reading gives the same bytes or marks.": the numbers that a call left, as many as the kind
 -- has, are written as the string that was read
-pub c-round-trip : (n : ℕ) (s : List ℕ) (fields z : List ℤ) → left (readInto n s fields) ≡ called 0 z
+pub c-round-trip : (n : ℕ) (s : List ℕ) (fields z : List ℤ) → calledMemory (readInto n s fields) ≡ called 0 z
     → (d : List ℕ) (old : ℕ) → length s ≤ length d
-    → counted old (writeFrom n (take (numberCount (namedKind n)) z) d) ≡ called 0 (s ++ drop (length s) d, length s)
+    → calledBoth old (writeFrom n (take (numberCount (namedKind n)) z) d) ≡ called 0 (s ++ drop (length s) d, length s)
 c-round-trip n s fields z h d old room =
     let r = c-read n s fields z .0 h in
     let count = numberCount (namedKind n) in
     let first = ap (take count) (r .1 .2) ∙ take-at _ _ count (numbers.numbers-long n s (r .0) (r .1 .0)) in
-    c-write n _ d old .written-back s (r .0, (r .1 .0, first)) room
+    c-write n _ d old .write-read s (r .0, (r .1 .0, first)) room
 
-pub c-minute-round-trip : (m : List ℕ) (fields z : List ℤ) → left (readMinuteInto m fields) ≡ called 0 z
+pub c-minute-round-trip : (m : List ℕ) (fields z : List ℤ) → calledMemory (readMinuteInto m fields) ≡ called 0 z
     → (d : List ℕ) (old : ℕ) → length m ≤ length d
-    → counted old (writeMinuteFrom (take 16 z) d) ≡ called 0 (m ++ drop (length m) d, length m)
+    → calledBoth old (writeMinuteFrom (take 16 z) d) ≡ called 0 (m ++ drop (length m) d, length m)
 c-minute-round-trip m fields z h d old room =
     let r = c-read-minute m fields z .0 h in
     let first = ap (take 16) (r .1 .2) ∙ take-at _ _ _ (numbers.minute-numbers-long (r .0)) in
-    c-write-minute _ d old .written-back m (r .0, (r .1 .0, first)) room
+    c-write-minute _ d old .write-read m (r .0, (r .1 .0, first)) room
 
 -- every string and every minute that is read has an instant, from C by the numbers that the call left
-pub c-instant-read : (n : ℕ) (s : List ℕ) (fields z : List ℤ) → left (readInto n s fields) ≡ called 0 z → (old : ℤ)
+pub c-instant-read : (n : ℕ) (s : List ℕ) (fields z : List ℤ) → calledMemory (readInto n s fields) ≡ called 0 z
+    → (old : ℤ)
     → (r : Reading) × (AcceptsNumbered n s r
-    × (answered old (unixTimeOf z) ≡ called 0 (instantOf (readingTime r))))
+    × (calledAnswer old (unixTimeOf z) ≡ called 0 (instantOf (readingTime r))))
 c-instant-read n s fields z h old =
     let r = c-read n s fields z .0 h in
     (r .0, (r .1 .0, instants.instant-left n s (r .0) (r .1 .0) z _ (r .1 .2) old))

@@ -12,7 +12,7 @@ use mathlib.Core.List.{List}
 use lib.ListN.{length, set}
 use Rattle.clock_time.specs.Errors.{accepted}
 use Rattle.clock_time.specs.Exit.{exit}
-use Rattle.clock_time.specs.Called.{called, answered, left, counted}
+use Rattle.clock_time.specs.Called.{called, calledAnswer, calledMemory, calledBoth}
 use Rattle.recording.specs.Demand.{Corrected}
 use Rattle.recording.specs.Gaps.{FirstGapAfter}
 use Rattle.recording.specs.Recording.{outcomeAt, fillOutcomes, recorded, correctMark}
@@ -31,11 +31,11 @@ correct-mark = recordings.demand-3
 
 -- from C, with the count behind a pointer
 pub c-correct-mark : (marks outcomes : List ℕ) (place mark : ℕ) (marks′ outcomes′ : List ℕ) (old count : ℕ)
-    → called 0 (recorded marks′ outcomes′, count) ≡ counted old (correctMark marks outcomes place mark)
+    → called 0 (recorded marks′ outcomes′, count) ≡ calledBoth old (correctMark marks outcomes place mark)
     → Corrected marks outcomes place mark marks′ outcomes′ count
 c-correct-mark marks outcomes place mark marks′ outcomes′ old count h =
     correct-mark marks outcomes place mark marks′ outcomes′ count
-    (sheets.counted-exit _ old _ count (sheets.correct-0 marks outcomes place mark) h)
+    (sheets.both-exit _ old _ count (sheets.correct-0 marks outcomes place mark) h)
 
 -- "the old and the corrected tape have the same one" (01, Tape and sheet), a first gap after the place
 pub same-first-gap : (marks : List ℕ) (place mark gap : ℕ)
@@ -54,14 +54,15 @@ pub outcome-at : (marks : List ℕ) (place : ℕ) → ReadsExactly (OutcomeAt ma
 outcome-at = sheets.outcome-exactly
 
 pub c-outcome-at : (old : ℕ) (marks : List ℕ) (place : ℕ)
-    → CallAnswersExactly (OutcomeAt marks place) (answered old (outcomeAt marks place))
+    → CallAnswersExactly (OutcomeAt marks place) (calledAnswer old (outcomeAt marks place))
 c-outcome-at old marks place = call-answers old _ (sheets.outcome-0 marks place) (outcome-at marks place)
 
 pub fill-outcomes : (marks outcomes outcomes′ : List ℕ) → exit (accepted tt) outcomes′ ≡ fillOutcomes marks outcomes
     → RightFor marks outcomes′
 fill-outcomes = recordings.filled-right
 
-pub c-fill-outcomes : (marks outcomes outcomes′ : List ℕ) → called 0 outcomes′ ≡ left (fillOutcomes marks outcomes)
+pub c-fill-outcomes : (marks outcomes outcomes′ : List ℕ)
+    → called 0 outcomes′ ≡ calledMemory (fillOutcomes marks outcomes)
     → RightFor marks outcomes′
 c-fill-outcomes marks outcomes outcomes′ h =
-    fill-outcomes marks outcomes outcomes′ (sheets.left-exit _ _ (sheets.fill-0 marks outcomes) h .1)
+    fill-outcomes marks outcomes outcomes′ (sheets.memory-exit _ _ (sheets.fill-0 marks outcomes) h .1)

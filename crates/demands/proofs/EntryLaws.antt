@@ -18,7 +18,7 @@ use Rattle.meinberg_standard.specs.Standard.{standard, standardFields, readStan
 use Rattle.meinberg_pzf.specs.Pzf.{pzf, pzfFields, readPzf}
 use Rattle.meinberg_gps.specs.Gps.{gps, gpsFields, readGps}
 use Rattle.elv_dcf7000.specs.Elv.{elv, elvFields, readElv}
-use Rattle.time_string.specs.Kind.{kindOf, plain, located, time, timeAndPosition, readAs}
+use Rattle.time_string.specs.Kind.{kindOf, timeOnly, located, time, timeAndPosition, readAs}
 use Rattle.time_string.specs.declared.Kind.{Kind}
 use Rattle.time_string.specs.declared.Kind.the-variants.{Standard, Pzf, Gps, Elv}
 use Rattle.dcf77.specs.Minute.{minuteChecks, minuteFields, readMinute}
@@ -69,10 +69,10 @@ kind-named (suc (suc (suc (suc n)))) =
 -- ---- reading strings
 pub read-as-checks : (kind : Kind) (s : List ℕ) → readAs kind s ≡ checked (checksAs kind s) (readingAs kind s)
 unfolding readAs readStandard readPzf readGps readElv readText standard pzf gps elv
-read-as-checks Standard s = checked-map plain time (λ a. refl) (λ n. refl) (textChecks standard s) (standardFields s)
-read-as-checks Pzf s = checked-map plain time (λ a. refl) (λ n. refl) (textChecks pzf s) (pzfFields s)
+read-as-checks Standard s = checked-map timeOnly time (λ a. refl) (λ n. refl) (textChecks standard s) (standardFields s)
+read-as-checks Pzf s = checked-map timeOnly time (λ a. refl) (λ n. refl) (textChecks pzf s) (pzfFields s)
 read-as-checks Gps s = checked-map located timeAndPosition (λ a. refl) (λ n. refl) (textChecks gps s) (gpsFields s)
-read-as-checks Elv s = checked-map plain time (λ a. refl) (λ n. refl) (textChecks elv s) (elvFields s)
+read-as-checks Elv s = checked-map timeOnly time (λ a. refl) (λ n. refl) (textChecks elv s) (elvFields s)
 
 pub read-numbered-checks : (n : ℕ) (s : List ℕ)
     → readNumbered n s ≡ checked (kindCheck n ∷ checksAs (namedKind n) s) (readingAs (namedKind n) s)

@@ -10,7 +10,7 @@ use lib.Seq.{getD-take, take-at}
 use lib.IntN.{ℤ, pos}
 use borrow.Author.Tests.{eq-eqb}
 use Rattle.clock_time.specs.Errors.{accepted, given, checked}
-use Rattle.clock_time.specs.Called.{called, answered}
+use Rattle.clock_time.specs.Called.{called, calledAnswer}
 use Rattle.clock_time.specs.declared.ClockTime.{ClockTime}
 use Rattle.clock_time.proofs.ErrorLaws.{apart}
 use Rattle.clock_time.proofs.OrderLaws.{Agree}
@@ -22,7 +22,7 @@ use Rattle.calendar.proofs.RulesLaws.{valid-exactly}
 use Rattle.gregorian.proofs.Theorems.{day-after-exactly}
 use Rattle.clock_numbers.specs.Numbers.{timeNumbers}
 use Rattle.clock_fields.specs.Ranges.{Range, within, timeRanges, fits, timeFrom, numbered}
-use Rattle.clock_fields.proofs.BackLaws.{first-back}
+use Rattle.clock_fields.proofs.FitsLaws.{first-time-numbers}
 use Rattle.clock_fields.proofs.Theorems as fields
 use Rattle.time_string.specs.Kind.{Reading, readingTime}
 use Rattle.radio_clock_readings.specs.Strings.{readingNumbers, unixTimeOf}
@@ -30,7 +30,7 @@ use Rattle.demands.specs.Accepted.{AcceptsNumbered}
 use Rattle.demands.specs.Lines.{instantLinesOf}
 use Rattle.demands.specs.Instant.{Instant, InstantOf, InstantOfNumbers}
 use Rattle.demands.specs.Exactly.{ReadsExactly}
-use Rattle.demands.proofs.HeldLaws.{valid-holds}
+use Rattle.demands.proofs.FitsLaws.{valid-fits}
 use Rattle.demands.proofs.NumbersLaws.{valid-numbers}
 use Rattle.demands.proofs.EntryLaws.{unix-time-checks}
 
@@ -103,7 +103,7 @@ numbers-fit : (z : List ℤ) (t : ClockTime) → ValidReading t → take 14 z �
     → (fits timeRanges z ≡ true) × (timeFrom z ≡ t)
 numbers-fit z t v e =
     numbered-accepted (fits timeRanges z) (timeFrom z) t
-    (rw (← (take-append-drop 14 z)) (rw e (first-back t (valid-holds t (valid-exactly t .1 v)) (drop 14 z))))
+    (rw (← (take-append-drop 14 z)) (rw e (first-time-numbers t (valid-fits t (valid-exactly t .1 v)) (drop 14 z))))
 
 time-long : (t : ClockTime) → length (timeNumbers t) ≡ 14
 unfolding timeNumbers
@@ -161,7 +161,7 @@ numbers-exactly z i = rw (numbers-checks z) (go (ofValid z) refl)
 -- what a reader left in front of what was lent
 pub instant-left : (n : ℕ) (s : List ℕ) (r : Reading) → AcceptsNumbered n s r → (z rest : List ℤ)
     → z ≡ readingNumbers r ++ rest → (old : ℤ)
-    → answered old (unixTimeOf z) ≡ called 0 (instantOf (readingTime r))
+    → calledAnswer old (unixTimeOf z) ≡ called 0 (instantOf (readingTime r))
 instant-left n s r h z rest e old =
     let v = valid-numbers n s r h in
     let t = readingTime r in

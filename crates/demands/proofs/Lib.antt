@@ -5,7 +5,7 @@ pub mod Checks
 pub mod EntryLaws
 pub mod AgreeLaws
 pub mod ReaderLaws
-pub mod HeldLaws
+pub mod FitsLaws
 pub mod NumbersLaws
 pub mod InstantLaws
 pub mod NeverLaws

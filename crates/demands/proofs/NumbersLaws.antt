@@ -11,7 +11,7 @@ use lib.Dec.{ltb}
 use borrow.Author.Tests.{ltb-true, ltb-false}
 use Rattle.clock_time.specs.Errors.{Answer, accepted, refused}
 use Rattle.clock_time.specs.Exit.{exit}
-use Rattle.clock_time.specs.Called.{counted, leaving}
+use Rattle.clock_time.specs.Called.{calledBoth, leaving}
 use Rattle.clock_time.specs.Faithful.{Faithful}
 use Rattle.clock_time.specs.Writing.{Written}
 use Rattle.clock_time.specs.declared.ClockTime.{ClockTime}
@@ -46,7 +46,7 @@ use Rattle.clock_time.proofs.ExactLaws.{lt-exactly}
 use Rattle.demands.proofs.OrderLaws.{Decided, decided-after}
 use Rattle.demands.proofs.WriterLaws.{Settled, settled, settled-same, writer-decided, numbers-settled}
 use Rattle.demands.proofs.WriterLaws.{writes-exactly, call-writes-exactly}
-use Rattle.demands.proofs.HeldLaws.{valid-holds, position-holds, marks-small}
+use Rattle.demands.proofs.FitsLaws.{valid-fits, position-fits, marks-small}
 
 -- ---- numbers that are no reading's are refused with 23
 numbered-23 : {A : Type 0} (fit : Bool) (a : A) (k : ℕ) → numbered fit a ≡ refused k → k ≡ 23
@@ -77,7 +77,7 @@ module _
     time-settled z d =
         handed-settled time timeNumbers (λ t. refl)
         (numbers-settled write timeOf timeNumbers (settled f) fields.numbers-time
-        (λ s t h. fields.time-numbers t (valid-holds t (valid s t (f .accepted-exactly s t .1 h))))
+        (λ s t h. fields.time-numbers t (valid-fits t (valid s t (f .accepted-exactly s t .1 h))))
         (λ x k e. numbered-23 _ _ k e) z d)
 
 as-settled : (kind : Kind) (z : List ℤ) (d : List ℕ)
@@ -91,7 +91,7 @@ as-settled Gps z d =
     (numbers-settled writeGps gpsOf gpsNumbers (settled gpss.faithful) fields.numbers-gps
     (λ s g h.
     let read = gpss.faithful .accepted-exactly s g .1 h in
-    fields.gps-numbers g (valid-holds (g .time) (gpss.valid-read s g read)) (position-holds s g read))
+    fields.gps-numbers g (valid-fits (g .time) (gpss.valid-read s g read)) (position-fits s g read))
     (λ x k e. numbered-23 _ _ k e) z d)
 
 -- by the kind that a number names
@@ -151,18 +151,18 @@ module _ (n : ℕ) (z : List ℤ) (d : List ℕ) where
       go false e = writes-exactly (known-settled e)
       go true e =
           rw (from-unknown e) (record {
-            written-back = λ s h. absurd (unknown-none e s h);
+            write-read = λ s h. absurd (unknown-none e s h);
             refused-exactly = λ room. (λ r s h. unknown-none e s h, λ none. (1, refl));
           })
 
-  pub call-from-exactly : (old : ℕ) → CallWritesExactly (λ s. AcceptsNumbers n s z) d (counted old (writeFrom n z d))
+  pub call-from-exactly : (old : ℕ) → CallWritesExactly (λ s. AcceptsNumbers n s z) d (calledBoth old (writeFrom n z d))
   call-from-exactly old = go (ltb 3 n) refl
     where
-      go : (b : Bool) → ltb 3 n ≡ b → CallWritesExactly (λ s. AcceptsNumbers n s z) d (counted old (writeFrom n z d))
+      go : (b : Bool) → ltb 3 n ≡ b → CallWritesExactly (λ s. AcceptsNumbers n s z) d (calledBoth old (writeFrom n z d))
       go false e = call-writes-exactly (known-settled e) old
       go true e =
           rw (from-unknown e) (record {
-            written-back = λ s h. absurd (unknown-none e s h);
+            write-read = λ s h. absurd (unknown-none e s h);
             refused-exactly = λ room. (λ r s h. unknown-none e s h, λ none. (0, refl));
           })
 
@@ -174,7 +174,7 @@ minute-settled z d =
     numbers-settled writeMinute minuteOf minuteNumbers (settled minutes.faithful) fields.numbers-minute
     (λ m a h.
     let read = minutes.faithful .accepted-exactly m a .1 h in
-    fields.minute-numbers a (valid-holds (a .time) (minutes.valid-read m a read)) (marks-small m a read))
+    fields.minute-numbers a (valid-fits (a .time) (minutes.valid-read m a read)) (marks-small m a read))
     (λ x k e. numbered-23 _ _ k e) z d
 
 -- ---- the numbers that a call left
@@ -200,15 +200,21 @@ module _ (n : ℕ) (s : List ℕ) (r : Reading) where
   unfolding gpsNumbers
   valid-numbers h = go (h .0) (h .1 .1)
     where
-      plainly : (t : ClockTime) → isReading t ≡ true → r ≡ time t
+      without-position : (t : ClockTime) → isReading t ≡ true → r ≡ time t
           → ValidReading (readingTime r) × (rest : List ℤ) × (readingNumbers r ≡ timeNumbers (readingTime r) ++ rest)
-      plainly t v e = rw e (valid-exactly t .0 v, [], sym (append-nil (timeNumbers t)))
+      without-position t v e = rw e (valid-exactly t .0 v, [], sym (append-nil (timeNumbers t)))
 
       go : (kind : Kind) → AcceptsAs kind s r
           → ValidReading (readingTime r) × (rest : List ℤ) × (readingNumbers r ≡ timeNumbers (readingTime r) ++ rest)
-      go Standard a = plainly (a .0) (standards.valid-read s (a .0) (standards.faithful .accepted-exactly s (a .0) .1 (a .1 .0))) (a .1 .1)
-      go Pzf a = plainly (a .0) (pzfs.valid-read s (a .0) (pzfs.faithful .accepted-exactly s (a .0) .1 (a .1 .0))) (a .1 .1)
-      go Elv a = plainly (a .0) (elvs.valid-read s (a .0) (elvs.faithful .accepted-exactly s (a .0) .1 (a .1 .0))) (a .1 .1)
+      go Standard a =
+          without-position (a .0) (standards.valid-read s (a .0)
+          (standards.faithful .accepted-exactly s (a .0) .1 (a .1 .0))) (a .1 .1)
+      go Pzf a =
+          without-position (a .0) (pzfs.valid-read s (a .0) (pzfs.faithful .accepted-exactly s (a .0) .1 (a .1 .0)))
+          (a .1 .1)
+      go Elv a =
+          without-position (a .0) (elvs.valid-read s (a .0) (elvs.faithful .accepted-exactly s (a .0) .1 (a .1 .0)))
+          (a .1 .1)
       go Gps a =
           rw (a .1 .1)
           (valid-exactly (a .0 .time) .0 (gpss.valid-read s (a .0) (gpss.faithful .accepted-exactly s (a .0) .1 (a .1 .0))), _, refl)

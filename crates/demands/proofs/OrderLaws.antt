@@ -10,7 +10,7 @@ use borrow.Author.Tests.{eqb-false, not-true}
 use Rattle.clock_time.specs.Errors.{Answer, accepted, refused, Check, given, checked}
 use Rattle.clock_time.specs.Exit.{Exit, exit, leaves}
 use Rattle.clock_time.specs.Order.{Line, numbersOf, Gives, NoneHolds}
-use Rattle.clock_time.specs.Called.{Called, statusOf, answered, left, counted, andThen, leaving}
+use Rattle.clock_time.specs.Called.{Called, statusOf, calledAnswer, calledMemory, calledBoth, andThen, leaving}
 use Rattle.clock_time.proofs.ErrorLaws.{apart, accepted-passes, passes-accepted}
 use Rattle.clock_time.proofs.OrderLaws.{Agree, refused-exactly, passes-none, none-passes}
 use Rattle.clock_time.proofs.Tests.{both}
@@ -181,18 +181,18 @@ called-keeps {A = A} ls order p answer r old c e kept =
 
 module _ {A : Type 0} (ls : List Line) (order : List ℕ) (p : positive order ≡ true) where
   -- whose answer goes behind a pointer
-  pub from-answered : (old : A) (answer : Answer A) → RefusesInOrder ls order answer
-      → CallRefusesAndKeeps ls order old (answered old answer)
-  from-answered old answer r =
-      called-keeps ls order p answer r old (answered old answer) refl (λ n e. rw e refl)
+  pub from-answer : (old : A) (answer : Answer A) → RefusesInOrder ls order answer
+      → CallRefusesAndKeeps ls order old (calledAnswer old answer)
+  from-answer old answer r =
+      called-keeps ls order p answer r old (calledAnswer old answer) refl (λ n e. rw e refl)
 
   module _ {M : Type 0} (old : M) (e : Exit A M) (r : RefusesAndKeeps ls order old e) where
     -- whose result is left in lent memory
-    pub from-left : CallRefusesAndKeeps ls order old (left e)
-    from-left = called-keeps ls order p (e .answer) (r .ordered) old (left e) refl (r .kept)
+    pub from-memory : CallRefusesAndKeeps ls order old (calledMemory e)
+    from-memory = called-keeps ls order p (e .answer) (r .ordered) old (calledMemory e) refl (r .kept)
 
     -- and with it a number behind a pointer
-    pub from-counted : (n : A) → CallRefusesAndKeeps ls order (old, n) (counted n e)
-    from-counted n =
-        called-keeps ls order p (e .answer) (r .ordered) (old, n) (counted n e) refl
+    pub from-both : (n : A) → CallRefusesAndKeeps ls order (old, n) (calledBoth n e)
+    from-both n =
+        called-keeps ls order p (e .answer) (r .ordered) (old, n) (calledBoth n e) refl
         (λ k h. rw (r .kept k h, h) refl)

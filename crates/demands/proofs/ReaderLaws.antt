@@ -12,7 +12,7 @@ use lib.IntN.{ℤ}
 use Prim.Native.Char.{code}
 use borrow.Author.Tests.{eqb-true, eqb-false, ne-eqb}
 use Rattle.clock_time.specs.Errors.{Answer, accepted, refused}
-use Rattle.clock_time.specs.Called.{Called, called, answered, left, andThen}
+use Rattle.clock_time.specs.Called.{Called, called, calledAnswer, calledMemory, andThen}
 use Rattle.clock_time.specs.declared.ClockTime.{ClockTime}
 use Rattle.clock_time.proofs.ErrorLaws.{apart}
 use Rattle.meinberg_gps.specs.declared.GpsTime.{GpsTime}
@@ -24,7 +24,7 @@ use Rattle.meinberg_gps.specs.Gps.{readGps}
 use Rattle.meinberg_gps.proofs.Theorems as gpss
 use Rattle.elv_dcf7000.specs.Elv.{readElv}
 use Rattle.elv_dcf7000.proofs.Theorems as elvs
-use Rattle.time_string.specs.Kind.{Reading, time, timeAndPosition, plain, located, kindOf, readAs}
+use Rattle.time_string.specs.Kind.{Reading, time, timeAndPosition, timeOnly, located, kindOf, readAs}
 use Rattle.time_string.specs.declared.Kind.{Kind}
 use Rattle.time_string.specs.declared.Kind.the-variants.{Standard, Pzf, Gps, Elv}
 use Rattle.clock_numbers.specs.Numbers.{putAnswer}
@@ -81,10 +81,10 @@ kind-number-exactly s =
     then-exactly (λ k. accepted (kindNumber k)) (λ k n. (λ h. cc, λ e. ap accepted (sym e))) (kindOf s) (tells-exactly s)
 
 -- ---- by kind
-pub plain-time : (a : Answer ClockTime) (r : Reading) → plain a ≡ accepted r
+pub time-only-time : (a : Answer ClockTime) (r : Reading) → timeOnly a ≡ accepted r
     → (t : ClockTime) × (a ≡ accepted t) × (r ≡ time t)
-plain-time (accepted t) r h = (t, refl, cc)
-plain-time (refused k) r h = apart (sym h)
+time-only-time (accepted t) r h = (t, refl, cc)
+time-only-time (refused k) r h = apart (sym h)
 
 pub located-time : (a : Answer GpsTime) (r : Reading) → located a ≡ accepted r
     → (g : GpsTime) × (a ≡ accepted g) × (r ≡ timeAndPosition g)
@@ -107,11 +107,11 @@ module _
 pub as-exactly : (kind : Kind) (s : List ℕ) → ReadsExactly (AcceptsAs kind s) (readAs kind s)
 unfolding readAs
 as-exactly Standard s =
-    handed plain time (λ t. refl) plain-time (readStandard s) (standards.faithful .accepted-exactly s)
-as-exactly Pzf s = handed plain time (λ t. refl) plain-time (readPzf s) (pzfs.faithful .accepted-exactly s)
+    handed timeOnly time (λ t. refl) time-only-time (readStandard s) (standards.faithful .accepted-exactly s)
+as-exactly Pzf s = handed timeOnly time (λ t. refl) time-only-time (readPzf s) (pzfs.faithful .accepted-exactly s)
 as-exactly Gps s =
     handed located timeAndPosition (λ t. refl) located-time (readGps s) (gpss.faithful .accepted-exactly s)
-as-exactly Elv s = handed plain time (λ t. refl) plain-time (readElv s) (elvs.faithful .accepted-exactly s)
+as-exactly Elv s = handed timeOnly time (λ t. refl) time-only-time (readElv s) (elvs.faithful .accepted-exactly s)
 
 -- by the kind that a number names
 number-kind : (kind : Kind) → kindNamed (kindNumber kind) ≡ accepted kind
@@ -142,7 +142,7 @@ numbered-exactly n s = then-exactly (λ kind. readAs kind s) (λ kind. as-exactl
 -- ---- what a call leaves
 -- behind a pointer; no refusal has the number 0
 pub call-answers : {A : Type 0} {Accepts : A → Type 0} (old : A) (answer : Answer A) → (answer ≡ refused 0 → ⊥)
-    → ReadsExactly Accepts answer → CallAnswersExactly Accepts (answered old answer)
+    → ReadsExactly Accepts answer → CallAnswersExactly Accepts (calledAnswer old answer)
 call-answers {A = A} old (accepted a) some exact b = (
   λ h. exact b .0 (ap (λ (c : Called A). accepted (c .memory)) h),
   λ h. ap (called 0) (let q : b ≡ a = cc (exact b .1 h) in sym q),
@@ -158,7 +158,7 @@ no-status n y z d e = absurd (d (ap (λ (c : Called (List ℤ)). c .status) e))
 module _ {A : Type 0} (numbers : A → List ℤ) {Accepts : A → Type 0} (fields : List ℤ) where
   -- as numbers in front of those lent
   pub call-reads : (answer : Answer A) → (answer ≡ refused 0 → ⊥) → ReadsExactly Accepts answer
-      → CallReadsExactly numbers Accepts fields (left (putAnswer numbers answer fields))
+      → CallReadsExactly numbers Accepts fields (calledMemory (putAnswer numbers answer fields))
   unfolding putAnswer
   call-reads (accepted a) some exact z = elim (decLe (length (numbers a)) (length fields)) [
     | yes room ↦

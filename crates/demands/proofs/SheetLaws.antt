@@ -7,7 +7,7 @@ use lib.ListN.{length}
 use borrow.Author.Tests.{ltb-false, leb-false, le-ltb, lt-leb}
 use Rattle.clock_time.specs.Errors.{Answer, accepted, refused, given}
 use Rattle.clock_time.specs.Exit.{Exit, exit}
-use Rattle.clock_time.specs.Called.{Called, called, statusOf, behind, left, counted}
+use Rattle.clock_time.specs.Called.{Called, called, statusOf, behind, calledMemory, calledBoth}
 use Rattle.clock_time.proofs.ErrorLaws.{accepted-passes}
 use Rattle.recording.specs.Recording.{rule, outcomeAt, fillOutcomes, correctMark}
 use Rattle.recording.proofs.Theorems.{rule-in-words}
@@ -34,9 +34,9 @@ outcome-exactly marks place n = (
 
 -- ---- what a call leaves
 -- no refusal has the number 0
-pub left-exit : {A M : Type 0} (e : Exit A M) (m : M) → (e .answer ≡ refused 0 → ⊥) → called 0 m ≡ left e
+pub memory-exit : {A M : Type 0} (e : Exit A M) (m : M) → (e .answer ≡ refused 0 → ⊥) → called 0 m ≡ calledMemory e
     → (a : A) × (exit (accepted a) m ≡ e)
-left-exit {A = A} {M = M} e m some h = go (e .answer) refl
+memory-exit {A = A} {M = M} e m some h = go (e .answer) refl
   where
     go : (a : Answer A) → e .answer ≡ a → (x : A) × (exit (accepted x) m ≡ e)
     go (accepted x) q =
@@ -44,9 +44,9 @@ left-exit {A = A} {M = M} e m some h = go (e .answer) refl
     go (refused k) q =
         absurd (some (q ∙ ap refused (sym (ap (λ (c : Called M). c .status) h ∙ ap statusOf q))))
 
-pub counted-exit : {A M : Type 0} (e : Exit A M) (old : A) (m : M) (a : A) → (e .answer ≡ refused 0 → ⊥)
-    → called 0 (m, a) ≡ counted old e → exit (accepted a) m ≡ e
-counted-exit {A = A} {M = M} e old m a some h = go (e .answer) refl
+pub both-exit : {A M : Type 0} (e : Exit A M) (old : A) (m : M) (a : A) → (e .answer ≡ refused 0 → ⊥)
+    → called 0 (m, a) ≡ calledBoth old e → exit (accepted a) m ≡ e
+both-exit {A = A} {M = M} e old m a some h = go (e .answer) refl
   where
     go : (x : Answer A) → e .answer ≡ x → exit (accepted a) m ≡ e
     go (accepted x) q =

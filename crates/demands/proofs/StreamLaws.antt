@@ -9,7 +9,7 @@ use lib.Seq.{drop-append-seam}
 use borrow.Author.Tests.{ltb-false}
 use Rattle.clock_time.specs.Errors.{accepted, given, checked}
 use Rattle.clock_time.specs.Exit.{Exit, exit, leaves}
-use Rattle.clock_time.specs.Called.{called, left}
+use Rattle.clock_time.specs.Called.{called, calledMemory}
 use Rattle.framing.specs.Feed.{feedOf}
 use Rattle.framing.proofs.Theorems as framing
 use Rattle.clock_time.proofs.ErrorLaws.{apart}
@@ -21,7 +21,7 @@ use Rattle.listing.proofs.CallsLaws.{call-text}
 use Rattle.listing.proofs.Theorems as listings
 use Rattle.demands.specs.Streams.{CallFeeds, Lists}
 use Rattle.demands.proofs.OrderLaws.{never-0}
-use Rattle.demands.proofs.SheetLaws.{left-exit}
+use Rattle.demands.proofs.SheetLaws.{memory-exit}
 use Rattle.demands.proofs.Demand1 as demand-1
 
 pub lists : (l : Listing) (s buffer : List ℕ) → Lists l s buffer (listOf l s buffer)
@@ -55,12 +55,12 @@ module _ (state : List ℕ) (taken event : ℕ) (s : List ℕ) (limit : ℕ) whe
       go true e h = apart (ap (λ (x : Exit (Unit {0}) FeedMemory). x .answer) h)
       go false e h = ltb-false _ _ e
 
-  pub feeds : (m : FeedMemory) → called 0 m ≡ left (feedInto (feedMemory state taken event) s limit)
+  pub feeds : (m : FeedMemory) → called 0 m ≡ calledMemory (feedInto (feedMemory state taken event) s limit)
       → CallFeeds state s limit m
   feeds m h =
       let old = feedMemory state taken event in
       let zero = never-0 _ (20 ∷ []) refl _ (demand-1.feed old s limit .ordered) in
-      let e = left-exit (feedInto old s limit) m zero h in
+      let e = memory-exit (feedInto old s limit) m zero h in
       let room = feed-room (e .0) m (e .1) in
       let on = states.feed-goes-on state taken event s limit room in
       rw (ap (λ (x : Exit (Unit {0}) FeedMemory). x .memory) (e .1)) (record {

@@ -11,7 +11,7 @@ use lib.ListN.{length, drop}
 use lib.IntN.{ℤ}
 use Rattle.clock_time.specs.Errors.{Answer, accepted, refused, given}
 use Rattle.clock_time.specs.Exit.{exit}
-use Rattle.clock_time.specs.Called.{counted, leaving}
+use Rattle.clock_time.specs.Called.{calledBoth, leaving}
 use Rattle.clock_time.specs.Faithful.{Faithful}
 use Rattle.clock_time.specs.Writing.{Written}
 use Rattle.clock_time.proofs.ErrorLaws.{apart}
@@ -32,7 +32,7 @@ pub settled : {A : Type 0} {Accepts : List ℕ → A → Type 0} {read : List �
     → Faithful Accepts read write → (a : A) (d : List ℕ) → Settled (λ s. Accepts s a) d (write a d)
 settled f a d =
     record {
-      written = λ s h room. f .written-back s a (f .accepted-exactly s a .1 h) d room;
+      written = λ s h room. f .write-read s a (f .accepted-exactly s a .1 h) d room;
       no-room = λ s h short. f .no-room s a (f .accepted-exactly s a .1 h) d short;
       unread = λ none. f .unread a d (λ r. none (r .0) (f .accepted-exactly (r .0) a .0 (r .1)));
       either =
@@ -116,17 +116,17 @@ module _ {Reads : List ℕ → Type 0} {d : List ℕ} {e : Written} (w : Settled
   pub writes-exactly : WritesExactly Reads d e
   writes-exactly =
       record {
-        written-back = w .written;
+        write-read = w .written;
         refused-exactly = λ room. (
           λ r s h. apart (sym (answered-by (w .written s h (room s h))) ∙ r .1),
           λ none. (23, answered-by (w .unread none)),
         );
       }
 
-  pub call-writes-exactly : (old : ℕ) → CallWritesExactly Reads d (counted old e)
+  pub call-writes-exactly : (old : ℕ) → CallWritesExactly Reads d (calledBoth old e)
   call-writes-exactly old =
       record {
-        written-back = λ s h room. rw (w .written s h room);
+        write-read = λ s h room. rw (w .written s h room);
         refused-exactly = λ room. (
           λ r s h.
               let z : _≡_ {A = ℕ} 0 (suc (r .0)) = rw (w .written s h (room s h)) at (r .1) in

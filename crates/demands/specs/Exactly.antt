@@ -18,7 +18,7 @@ ReadsExactly {A} Accepts answer = (a : A) → (answer ≡ accepted a) ↔ Accept
 -- a writer's answer and the buffer at exit; `Reads s` says that s is accepted as what was to be written
 pub record WritesExactly (Reads : List ℕ → Type 0) (buffer : List ℕ) (e : Written) : Type 0 where
   -- "Written back, an accepted reading gives the same bytes or marks." (demand 2), and nothing after them changes
-  pub written-back : (s : List ℕ) → Reads s → length s ≤ length buffer
+  pub write-read : (s : List ℕ) → Reads s → length s ≤ length buffer
       → e ≡ exit (accepted (length s)) (s ++ drop (length s) buffer)
   -- "Given room enough, a writer refuses a reading exactly when nothing acceptable in that format reads as it."
   -- (demand 2)
@@ -41,7 +41,7 @@ CallReadsExactly {A} numbers Accepts fields c =
 
 -- a call that writes to a buffer, with the number of places filled behind a pointer
 pub record CallWritesExactly (Reads : List ℕ → Type 0) (buffer : List ℕ) (c : Called (List ℕ × ℕ)) : Type 0 where
-  pub written-back : (s : List ℕ) → Reads s → length s ≤ length buffer
+  pub write-read : (s : List ℕ) → Reads s → length s ≤ length buffer
       → c ≡ called 0 (s ++ drop (length s) buffer, length s)
   pub refused-exactly : ((s : List ℕ) → Reads s → length s ≤ length buffer)
       → ((k : ℕ) × (c .status ≡ suc k)) ↔ ((s : List ℕ) → Reads s → ⊥)

@@ -24,7 +24,7 @@ ghost use Rattle.gps_position.specs.Position.{positionAnswer};
 ghost use Rattle.gps_position.specs.Rules.{PositionRules, SaysPosition, positionLines};
 ghost use Rattle.meinberg_gps.specs.Gps.{gpsAnswer};
 ghost use Rattle.dcf77.specs.Minute.{minuteAnswer};
-ghost use Rattle.listing_lines.specs.Line.{lineOf, writeLine};
+ghost use Rattle.listing_lines.specs.Line.{timeLine, writeLine};
 ghost use Rattle.listing_lines.specs.Totals.{totalsLine, writeTotals};
 ghost use Rattle.clock_fields.specs.Ranges.{timeRanges, gpsRanges, minuteRanges, fits, fitsAll};
 ghost use Rattle.clock_fields.specs.Ranges.{firstTimeOf, timeOf, gpsOf, minuteOf};
@@ -154,7 +154,7 @@ fn write_digits(number: u64, count: usize, out: &mut [u8]) -> WriteAnswer
 fn write_line(t: ClockTime, out: &mut [u8]) -> WriteAnswer
     ensures demand_1 { λ r. ⌜
         RefusesAndKeeps
-        (tests (given 23 (not (isReading t)) ∷ given 20 (ltb (length (now (out .entry))) (length (lineOf t))) ∷ []))
+        (tests (given 23 (not (isReading t)) ∷ given 20 (ltb (length (now (out .entry))) (length (timeLine t))) ∷ []))
         (23 ∷ 20 ∷ []) (now (out .entry)) (written r (now (out .exit)))
         ⌝ }
     ensures answer { λ r. ⌜ written r (now (out .exit)) ≡ writeLine t (now (out .entry)) ⌝ }

@@ -94,18 +94,18 @@ flagSum-bytes a b c =
     eqb-true _ _
     (every-flags (λ a b c. eqb (boolByte a + 2 * boolByte b + 4 * boolByte c) (flagSum a b c)) refl a b c)
 
-pub flagSum-back : (n : ℕ) → n < 8 → flagSum (summerIn n) (changeIn n) (unsynchronisedIn n) ≡ n
+pub flagSum-flags : (n : ℕ) → n < 8 → flagSum (summerIn n) (changeIn n) (unsynchronisedIn n) ≡ n
 unfolding flagSum
-flagSum-back n h =
+flagSum-flags n h =
     eqb→eq _ _ (below-at 8 (λ k. eqb (flagSum (summerIn k) (changeIn k) (unsynchronisedIn k)) k) tt n h)
 
 -- ---- the text of the fields
-pub elv-back : (s : List ℕ) → PassesText elv s → elvText (elvFields s) ≡ s
+pub text-fields : (s : List ℕ) → PassesText elv s → elvText (elvFields s) ≡ s
 unfolding elv elvFlagFault elvText elvFields withWeekday sentFields elvLayout ascii
-elv-back s r =
+text-fields s r =
     let h = r .clock .fits in
     let few : elvFlags s < 8 = omega (arith, ltb-false 7 (elvFlags s) (r .flags)) in
-    simp (digits-number h 2, digits-year h, flagSum-back (elvFlags s) few) (restore-fits h)
+    simp (digits-number h 2, digits-year h, flagSum-flags (elvFlags s) few) (restore-fits h)
 
 -- ---- deciding from the clock time
 text-fits : (t : ClockTime) → FitsLayout elvLayout (elvText t)

@@ -26,12 +26,13 @@ use Rattle.elv_dcf7000.specs.Accepts.{AcceptsElv}
 use Rattle.elv_dcf7000.specs.Says.{elvPicture, SaysElv}
 use Rattle.elv_dcf7000.specs.Lines.{elvLines}
 use Rattle.elv_dcf7000.proofs.SaysLaws.{in-words}
-use Rattle.elv_dcf7000.proofs.ElvLaws.{elv-back, decides}
+use Rattle.elv_dcf7000.proofs.ElvLaws.{text-fields, decides}
 
 -- demand 2: acceptance, the fields read, and what is written
 pub faithful : Faithful AcceptsElv readElv writeElv
 unfolding readElv writeElv elv
-faithful = text.faithful (writtenClock elv elvText) AcceptsElv (text.exactly in-words) elv-back sameTime-refl sameTime-true
+faithful =
+    text.faithful (writtenClock elv elvText) AcceptsElv (text.exactly in-words) text-fields sameTime-refl sameTime-true
 
 -- its first sentence by itself, with "FF is 00..07" (01, Meinberg and ELV strings)
 pub read-elv-exactly : (s : List ℕ) (t : ClockTime) → (readElv s ≡ accepted t)
@@ -69,4 +70,4 @@ weekday-read s t h =
 pub read-is-written : (s : List ℕ) (t : ClockTime)
     → (readElv s ≡ accepted t) ↔ (((isRepresentable t && elvRepresentable t) ≡ true) × (elvText t ≡ s))
 unfolding readElv elv
-read-is-written = clock-written decides elv-back
+read-is-written = clock-written decides text-fields

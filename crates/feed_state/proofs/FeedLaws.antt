@@ -20,7 +20,7 @@ use Rattle.framing.specs.declared.FeedResult.{FeedResult}
 use Rattle.framing.specs.Step.{effectiveMode, etxAt, plainAt, stepOf}
 use Rattle.framing.specs.Feed.{isNothing, afterTaking, feedOf}
 use Rattle.framing.proofs.StepLaws.{inside-room, step-cases}
-use Rattle.clock_time.specs.Called.{called, left}
+use Rattle.clock_time.specs.Called.{called, calledMemory}
 use Rattle.feed_state.specs.Feed.{modeNumber, framerIn, stateBytes, eventNumber, feedMemory, feedInto}
 
 -- ---- what every step keeps, a feed keeps
@@ -129,6 +129,6 @@ store-after f d x long room e = rw (e, long) (two-after 66 (f .bytes) d (f .coun
 pub feed-done : (state : List ℕ) (taken event : ℕ) (s : List ℕ) (limit : ℕ) (r : FeedResult) (x : List ℕ) (k : ℕ)
     → 68 ≤ length state → r ≡ feedOf (framerIn state) (take limit s) → x ≡ stateBytes (r .framer) ++ drop 68 state
     → k ≡ eventNumber (r .event)
-    → called 0 (feedMemory x (r .taken) k) ≡ left (feedInto (feedMemory state taken event) s limit)
+    → called 0 (feedMemory x (r .taken) k) ≡ calledMemory (feedInto (feedMemory state taken event) s limit)
 unfolding feedInto
 feed-done state taken event s limit r x k room e p q = simp (le-ltb _ _ room, ← e, p, q)

@@ -9,7 +9,7 @@ use borrow.Author.Tests.{le-ltb}
 use Rattle.framing.specs.Step.{start}
 use Rattle.framing.specs.Feed.{feedOf}
 use Rattle.feed_state.specs.Feed.{modeOf, framerIn, stateBytes, eventNumber, FeedMemory, feedMemory, feedInto}
-use Rattle.feed_state.proofs.StateLaws.{state-back}
+use Rattle.feed_state.proofs.StateLaws.{framer-bytes}
 use Rattle.feed_state.proofs.FeedLaws.{feed-whole}
 
 pub zero-state : framerIn (replicate 68 0) ≡ start
@@ -35,7 +35,7 @@ pub feed-goes-on : (state : List ℕ) (taken event : ℕ) (s : List ℕ) (limit 
 feed-goes-on state taken event s limit room =
     let r = feedOf (framerIn state) (take limit s) in
     rw (feed-room state taken event s limit room) (
-      state-back (r .framer) (drop 68 state) (feed-whole (take limit s) (framerIn state) (state-whole state room)),
+      framer-bytes (r .framer) (drop 68 state) (feed-whole (take limit s) (framerIn state) (state-whole state room)),
       refl,
       refl,
     )

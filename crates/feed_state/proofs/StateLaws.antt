@@ -10,11 +10,11 @@ use Rattle.framing.specs.declared.Mode.the-variants.{Outside, Inside, Overlong}
 use Rattle.framing.specs.declared.Framer.{Framer}
 use Rattle.feed_state.specs.Feed.{modeNumber, modeOf, framerIn, stateBytes}
 
-mode-back : (m : Mode) → modeOf (modeNumber m) ≡ m
+mode-number : (m : Mode) → modeOf (modeNumber m) ≡ m
 unfolding modeOf
-mode-back Outside = refl
-mode-back Inside = refl
-mode-back Overlong = refl
+mode-number Outside = refl
+mode-number Inside = refl
+mode-number Overlong = refl
 
 -- bytes, and two more after them
 module _ (n : ℕ) (bytes : List ℕ) (x y : ℕ) (rest : List ℕ) (long : length bytes ≡ n) where
@@ -29,13 +29,13 @@ module _ (n : ℕ) (bytes : List ℕ) (x y : ℕ) (rest : List ℕ) (long : leng
       rw (append-assoc, ← (append-snoc bytes x (y ∷ rest)))
       (getD-at (bytes ++ x ∷ []) y rest 0 (suc n) (simp length-append (omega arith)))
 
-pub state-back : (f : Framer) (rest : List ℕ) → length (f .bytes) ≡ 66 → framerIn (stateBytes f ++ rest) ≡ f
+pub framer-bytes : (f : Framer) (rest : List ℕ) → length (f .bytes) ≡ 66 → framerIn (stateBytes f ++ rest) ≡ f
 unfolding framerIn stateBytes
-state-back f rest long =
+framer-bytes f rest long =
     let m = modeNumber (f .mode) in
     simp (
       first-bytes 66 (f .bytes) (f .count) m rest long,
       byte-after 66 (f .bytes) (f .count) m rest long,
       byte-last 66 (f .bytes) (f .count) m rest long,
-      mode-back,
+      mode-number,
     )

@@ -19,7 +19,7 @@ zero-state = goes.zero-state
 
 -- the bytes of a state are that state again
 pub state-bytes : (f : Framer) (rest : List ℕ) → length (f .bytes) ≡ 66 → framerIn (stateBytes f ++ rest) ≡ f
-state-bytes = state.state-back
+state-bytes = state.framer-bytes
 
 -- "The feed's state goes in and is handed back" (01, The serial feed): what a call leaves stands for the state after
 -- the bytes taken, which are those of the feed, so that calls in a row are feeds in a row

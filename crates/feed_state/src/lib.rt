@@ -6,7 +6,7 @@ ghost use mathlib.Core.Path.{_≡_};
 ghost use mathlib.Core.List.{_++_};
 ghost use Prim.Native.Nat.{_≤_};
 ghost use lib.ListN.{length, drop};
-ghost use Rattle.clock_time.specs.Called.{called, left};
+ghost use Rattle.clock_time.specs.Called.{called, calledMemory};
 ghost use Rattle.feed_state.specs.Feed.{modeNumber, modeOf, framerIn, stateBytes, eventNumber, feedMemory};
 ghost use Rattle.feed_state.specs.Feed.{feedInto};
 
@@ -70,7 +70,7 @@ fn store(framer: Framer, state: &mut [u8])
 pub fn feed(state: &mut [u8], s: &[u8], limit: usize, taken: &mut usize, event: &mut u8) -> u8
     ensures { λ r. ⌜
         called r (feedMemory (now (state .exit)) (now (taken .exit)) (now (event .exit)))
-        ≡ left
+        ≡ calledMemory
         (feedInto (feedMemory (now (state .entry)) (now (taken .entry)) (now (event .entry))) (now (s .entry)) limit)
         ⌝ }
 {

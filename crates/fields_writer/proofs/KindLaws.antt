@@ -8,7 +8,7 @@ use lib.IntN.{ℤ}
 use borrow.Author.Tests.{ne-eqb}
 use Rattle.clock_time.specs.Errors.{refused}
 use Rattle.clock_time.specs.Exit.{exit}
-use Rattle.fields_writer.specs.Writers.{kindNamed, writeAs, writeFrom, writeTime, writePlain}
+use Rattle.fields_writer.specs.Writers.{kindNamed, writeAs, writeFrom, writeTime, writeTimeFrom}
 
 pub kind-unknown : (n : ℕ) → 3 < n → kindNamed n ≡ refused 1
 unfolding kindNamed
@@ -25,9 +25,9 @@ module _ (n : ℕ) (z : List ℤ) (d : List ℕ) where
   unfolding writeFrom
   write-unknown h = rw (kind-unknown n h)
 
-  pub write-plain : n ≤ 3 → (n ≡ 2 → ⊥) → writePlain n z d ≡ writeFrom n z d
-  unfolding writePlain writeTime writeFrom kindNamed writeAs
-  write-plain h other = elim (ℕ-discrete n 0) [
+  pub write-time-from : n ≤ 3 → (n ≡ 2 → ⊥) → writeTimeFrom n z d ≡ writeFrom n z d
+  unfolding writeTimeFrom writeTime writeFrom kindNamed writeAs
+  write-time-from h other = elim (ℕ-discrete n 0) [
     | yes zero ↦ rw zero
     | no above ↦ elim (ℕ-discrete n 1) [
       | yes one ↦ rw one

@@ -48,5 +48,5 @@ writeTime n t buffer =
     cond (eqb n 0) (writeStandard t buffer) (cond (eqb n 1) (writePzf t buffer) (writeElv t buffer))
 
 -- the same from the numbers of a clock time
-unfoldable pub writePlain : ℕ → List ℤ → List ℕ → Written
-writePlain n z buffer = leaving buffer (timeOf z) (λ t. writeTime n t buffer)
+unfoldable pub writeTimeFrom : ℕ → List ℤ → List ℕ → Written
+writeTimeFrom n z buffer = leaving buffer (timeOf z) (λ t. writeTime n t buffer)

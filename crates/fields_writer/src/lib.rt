@@ -8,7 +8,7 @@ use meinberg_gps::GpsAnswer;
 ghost use mathlib.Core.Path.{_≡_};
 ghost use Rattle.clock_time.specs.Writing.{written};
 ghost use Rattle.time_string.specs.declared.Kind.{Kind};
-ghost use Rattle.fields_writer.specs.Writers.{writeTime, writePlain, writeAs, writeFrom, writeMinuteFrom};
+ghost use Rattle.fields_writer.specs.Writers.{writeTime, writeTimeFrom, writeAs, writeFrom, writeMinuteFrom};
 
 // Writes a clock time as a string of kind 0 or 1, or of kind 3 for any other number.
 fn write_time(kind: u8, t: ClockTime, out: &mut [u8]) -> WriteAnswer
@@ -23,8 +23,8 @@ fn write_time(kind: u8, t: ClockTime, out: &mut [u8]) -> WriteAnswer
     elv_dcf7000_writer::write_elv(t, out)
 }
 
-fn write_plain(kind: u8, fields: &[i32], out: &mut [u8]) -> WriteAnswer
-    ensures { λ r. ⌜ written r (now (out .exit)) ≡ writePlain kind (now (fields .entry)) (now (out .entry)) ⌝ }
+fn write_time_from(kind: u8, fields: &[i32], out: &mut [u8]) -> WriteAnswer
+    ensures { λ r. ⌜ written r (now (out .exit)) ≡ writeTimeFrom kind (now (fields .entry)) (now (out .entry)) ⌝ }
 {
     match clock_fields::time_of(fields) {
         ReadAnswer::Read(t) => write_time(kind, t, out),
@@ -53,7 +53,7 @@ pub fn write_string(kind: u8, fields: &[i32], out: &mut [u8]) -> WriteAnswer
     if kind == 2 {
         return write_gps(fields, out);
     }
-    write_plain(kind, fields, out)
+    write_time_from(kind, fields, out)
 }
 
 // Writes numbers as a run of marks to the front of `out`. Refuses with Unrepresentable (23) if no run is read as the

@@ -16,25 +16,25 @@ allPlain [] = true
 allPlain (b ∷ s) = not (eqb b 2 || eqb b 3) && allPlain s
 
 -- the bytes taken so far end in STX and a body that has neither STX nor ETX, and these are kept
-pub record Open (taken : List ℕ) (f : Framer) : Type 0 where
+pub record Open (input : List ℕ) (f : Framer) : Type 0 where
   pub before : List ℕ
   pub body : List ℕ
-  pub ends : taken ≡ before ++ (2 ∷ body)
+  pub ends : input ≡ before ++ (2 ∷ body)
   pub kept : take (f .count) (f .bytes) ≡ 2 ∷ body
   pub plain : allPlain body ≡ true
 
 -- what holds of the state after the bytes taken so far
-pub record Reached (taken : List ℕ) (f : Framer) : Type 0 where
+pub record Reached (input : List ℕ) (f : Framer) : Type 0 where
   pub size : length (f .bytes) ≡ 66
   pub few : f .count ≤ 66
-  pub inside : f .mode ≡ Inside → Open taken f
+  pub inside : f .mode ≡ Inside → Open input f
 
 -- "a complete string of n bytes [..] n counts STX and ETX; the state's first n bytes are then the string" (01, The
 -- serial feed): the bytes taken so far end in that string
-pub record Framed (taken : List ℕ) (f : Framer) (n : ℕ) : Type 0 where
+pub record Framed (input : List ℕ) (f : Framer) (n : ℕ) : Type 0 where
   pub before : List ℕ
   pub body : List ℕ
-  pub ends : taken ≡ before ++ (2 ∷ body ++ 3 ∷ [])
+  pub ends : input ≡ before ++ (2 ∷ body ++ 3 ∷ [])
   pub string : take n (f .bytes) ≡ 2 ∷ body ++ 3 ∷ []
   pub plain : allPlain body ≡ true
   pub counted : n ≡ length body + 2

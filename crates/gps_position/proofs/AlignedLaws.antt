@@ -17,31 +17,32 @@ use Rattle.gps_position.specs.Aligned.{areDigits, rightAligned, digitsOr
 
 -- ---- digits and blanks
 -- a digit or a blank: its low half is the number that it counts as
-pub record Plain (b : ℕ) : Type 0 where
+pub record Numeric (b : ℕ) : Type 0 where
   pub low : b % 16 ≡ b - 48
   pub small : b ≤ 57
 
-plain-byte : (b : ℕ) → (isDigit b || eqb b 32) ≡ true → Plain b
-plain-byte b h = go (isDigit b) (eqb b 32) refl refl h
+numeric-byte : (b : ℕ) → (isDigit b || eqb b 32) ≡ true → Numeric b
+numeric-byte b h = go (isDigit b) (eqb b 32) refl refl h
   where
-    go : (t u : Bool) → isDigit b ≡ t → eqb b 32 ≡ u → (t || u) ≡ true → Plain b
+    go : (t u : Bool) → isDigit b ≡ t → eqb b 32 ≡ u → (t || u) ≡ true → Numeric b
     go true u e f h = let r = digit-range b e in record { low = omega arith; small = omega arith }
     go false true e f h = let r = eqb-true b 32 f in record { low = omega arith; small = omega arith }
     go false false e f h = absurd (false≢true h)
 
-pub plain-at : (s : List ℕ) → digitsOrBlanks s ≡ true → (i : ℕ) → i < length s → Plain (getD s i 0)
+pub numeric-at : (s : List ℕ) → digitsOrBlanks s ≡ true → (i : ℕ) → i < length s → Numeric (getD s i 0)
 unfolding digitsOrBlanks
-plain-at [] h i j = absurd (omega arith)
-plain-at (b ∷ s) h zero j = plain-byte b (both (isDigit b || eqb b 32) (digitsOrBlanks s) h .0)
-plain-at (b ∷ s) h (suc i) j = plain-at s (both (isDigit b || eqb b 32) (digitsOrBlanks s) h .1) i (omega arith)
+numeric-at [] h i j = absurd (omega arith)
+numeric-at (b ∷ s) h zero j = numeric-byte b (both (isDigit b || eqb b 32) (digitsOrBlanks s) h .0)
+numeric-at (b ∷ s) h (suc i) j = numeric-at s (both (isDigit b || eqb b 32) (digitsOrBlanks s) h .1) i (omega arith)
 
-digit-plain : (b : ℕ) → isDigit b ≡ true → (isDigit b || eqb b 32) ≡ true
-digit-plain b h = rw h
+digit-numeric : (b : ℕ) → isDigit b ≡ true → (isDigit b || eqb b 32) ≡ true
+digit-numeric b h = rw h
 
-pub digits-plain : (s : List ℕ) → areDigits s ≡ true → digitsOrBlanks s ≡ true
+pub digits-numeric : (s : List ℕ) → areDigits s ≡ true → digitsOrBlanks s ≡ true
 unfolding areDigits digitsOrBlanks
-digits-plain [] h = refl
-digits-plain (b ∷ s) h = let w = both (isDigit b) (areDigits s) h in simp (digit-plain b (w .0), digits-plain s (w .1))
+digits-numeric [] h = refl
+digits-numeric (b ∷ s) h =
+    let w = both (isDigit b) (areDigits s) h in simp (digit-numeric b (w .0), digits-numeric s (w .1))
 
 pub digits-cons : (b : ℕ) (s : List ℕ) → areDigits (b ∷ s) ≡ true → (48 ≤ b) × (b ≤ 57) × (areDigits s ≡ true)
 unfolding areDigits
@@ -79,14 +80,14 @@ aligned-how (b ∷ c ∷ s) h =
 
 aligned-made : {s : List ℕ} → Aligned s → digitsOrBlanks s ≡ true
 unfolding digitsOrBlanks isDigit
-aligned-made (last {b} h) = simp (digit-plain b h)
+aligned-made (last {b} h) = simp (digit-numeric b h)
 aligned-made (blank e a) = rw (e, aligned-made a)
 aligned-made (high {b} {c} {s} lo hi d) =
     let low : 48 ≤ b = omega arith in
-    rw (le-leb 48 b low, le-leb b 57 hi) (digits-plain (c ∷ s) d)
+    rw (le-leb 48 b low, le-leb b 57 hi) (digits-numeric (c ∷ s) d)
 
-pub aligned-plain : (s : List ℕ) → rightAligned s ≡ true → digitsOrBlanks s ≡ true
-aligned-plain s h = aligned-made (aligned-how s h)
+pub aligned-numeric : (s : List ℕ) → rightAligned s ≡ true → digitsOrBlanks s ≡ true
+aligned-numeric s h = aligned-made (aligned-how s h)
 
 -- a blank before a right-aligned number changes nothing
 pub aligned-blank : (b : ℕ) (s : List ℕ) → rightAligned (32 ∷ b ∷ s) ≡ rightAligned (b ∷ s)
@@ -104,6 +105,6 @@ value-small s h = value-low s (low s h)
   where
     low : (s : List ℕ) → digitsOrBlanks s ≡ true → Low s
     low s h i = elim (decLt i (length s)) [
-      | yes l ↦ plain-at s h i l .small
+      | yes l ↦ numeric-at s h i l .small
       | no l ↦ let out : length s ≤ i = omega arith in omega (arith, List·getD-eq-default s 0 out)
     ]

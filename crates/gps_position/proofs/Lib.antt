@@ -1,9 +1,9 @@
 -- Laws of the definitions, and the main results.
 pub mod AlignedLaws
-pub mod AlignedBackLaws
+pub mod AlignedReadLaws
 pub mod AlignedWrittenLaws
 pub mod PositionLaws
-pub mod PositionBackLaws
+pub mod PositionReadLaws
 pub mod PositionWrittenLaws
 pub mod RulesLaws
 pub mod SaysLaws

@@ -14,17 +14,17 @@ use Rattle.clock_time.specs.Lists.{slice}
 use Rattle.layout.specs.Layout.{number}
 use Rattle.gps_position.specs.Aligned.{areDigits, rightAligned, digitsOrBlanks}
 use Rattle.gps_position.specs.Position.{Angle, latitude, longitude, wholePart, decimals, angleDigits}
-use Rattle.gps_position.specs.Position.{positionDigits, hemisphere, angleSize, inRange, positionFault}
+use Rattle.gps_position.specs.Position.{positionDigits, hemisphere, angleMagnitude, inRange, positionFault}
 use Rattle.gps_position.specs.Position.{angleOf, positionOf, readPosition, positionFrom, positionRepresentable}
-use Rattle.signed.proofs.SignedLaws.{sign-limit, signed-size}
-use Rattle.gps_position.proofs.AlignedLaws.{digits-plain, aligned-plain, aligned-end, value-small}
+use Rattle.signed.proofs.SignedLaws.{sign-limit, signed-magnitude}
+use Rattle.gps_position.proofs.AlignedLaws.{digits-numeric, aligned-numeric, aligned-end, value-small}
 
 -- the digits of an angle, before and after its point
 pub record DigitsOf (a : Angle) (s : List ℕ) : Type 0 where
   pub whole : rightAligned (wholePart a s) ≡ true
   pub after : areDigits (decimals a s) ≡ true
-  pub whole-plain : digitsOrBlanks (wholePart a s) ≡ true
-  pub after-plain : digitsOrBlanks (decimals a s) ≡ true
+  pub whole-numeric : digitsOrBlanks (wholePart a s) ≡ true
+  pub after-numeric : digitsOrBlanks (decimals a s) ≡ true
 
 digits-of : (a : Angle) (s : List ℕ) → angleDigits a s ≡ true → DigitsOf a s
 unfolding angleDigits
@@ -33,15 +33,15 @@ digits-of a s h =
     record {
       whole = w .0;
       after = w .1;
-      whole-plain = aligned-plain (wholePart a s) (w .0);
-      after-plain = digits-plain (decimals a s) (w .1);
+      whole-numeric = aligned-numeric (wholePart a s) (w .0);
+      after-numeric = digits-numeric (decimals a s) (w .1);
     }
 
 pub record DigitsStand (s : List ℕ) : Type 0 where
   pub latitude-digits : DigitsOf latitude s
   pub longitude-digits : DigitsOf longitude s
   pub height-aligned : rightAligned (slice 60 4 s) ≡ true
-  pub height-plain : digitsOrBlanks (slice 60 4 s) ≡ true
+  pub height-numeric : digitsOrBlanks (slice 60 4 s) ≡ true
 
 pub position-digits : (s : List ℕ) → positionDigits s ≡ true → DigitsStand s
 unfolding positionDigits
@@ -52,7 +52,7 @@ position-digits s h =
       latitude-digits = digits-of latitude s (v .0);
       longitude-digits = digits-of longitude s (v .1);
       height-aligned = w .1;
-      height-plain = aligned-plain (slice 60 4 s) (w .1);
+      height-numeric = aligned-numeric (slice 60 4 s) (w .1);
     }
 
 -- ---- what was read, or 9
@@ -71,16 +71,16 @@ module _ (s : List ℕ) where
       (rw (end, aligned-end (getD s 60 0) (getD s 61 0) (getD s 62 0))
       (and-false (angleDigits latitude s && angleDigits longitude s)))
 
-  -- what the code makes of the sizes and the height
-  pub position-stands : positionDigits s ≡ true → {lat lon height : ℕ} → lat ≡ angleSize latitude s
-      → lon ≡ angleSize longitude s → height ≡ number 4 60 s → {r : Answer Position}
+  -- what the code makes of the magnitudes and the height
+  pub position-stands : positionDigits s ≡ true → {lat lon height : ℕ} → lat ≡ angleMagnitude latitude s
+      → lon ≡ angleMagnitude longitude s → height ≡ number 4 60 s → {r : Answer Position}
       → r ≡ positionFrom (hemisphere latitude s) lat (hemisphere longitude s) lon height → r ≡ readPosition s
   unfolding readPosition positionFault positionOf angleOf inRange
   position-stands h lat lon height e = e ∙ rw (lat, lon, height) (simp h)
 
-pub range-limit : (a : Angle) (s : List ℕ) → inRange a s ≡ true → angleSize a s ≤ a .limit
+pub range-limit : (a : Angle) (s : List ℕ) → inRange a s ≡ true → angleMagnitude a s ≤ a .limit
 unfolding inRange
-range-limit a s h = sign-limit (code (a .above)) (code (a .below)) (a .limit) (hemisphere a s) (angleSize a s) h
+range-limit a s h = sign-limit (code (a .above)) (code (a .below)) (a .limit) (hemisphere a s) (angleMagnitude a s) h
 
 -- ---- what a string without fault has
 pub record Faultless (s : List ℕ) : Type 0 where
@@ -104,9 +104,9 @@ pub position-representable : (s : List ℕ) → positionFault s ≡ false → po
 unfolding positionRepresentable positionOf angleOf
 position-representable s h =
     let f = faultless s h in
-    let high : number 4 60 s ≤ 9999 = omega (arith, value-small (slice 60 4 s) (f .stand .height-plain)) in
+    let high : number 4 60 s ≤ 9999 = omega (arith, value-small (slice 60 4 s) (f .stand .height-numeric)) in
     simp (
-      signed-size,
+      signed-magnitude,
       le-leb _ _ (range-limit latitude s (f .latitude-range)),
       le-leb _ _ (range-limit longitude s (f .longitude-range)),
       le-leb _ _ high,

@@ -18,14 +18,15 @@ use Rattle.layout.specs.Layout.{number}
 use Rattle.signed.specs.Signed.{signByte}
 use Rattle.signed.proofs.SignedLaws.{sign-read, sign-written}
 use Rattle.gps_position.specs.Aligned.{padded, aligned}
-use Rattle.gps_position.specs.Position.{Angle, latitude, longitude, wholePart, decimals, hemisphere, angleSize}
-use Rattle.gps_position.specs.Position.{angleDigits, positionDigits, inRange, positionFault, angleOf, positionOf}
-use Rattle.gps_position.specs.Position.{angleBytes, angleText, positionText, positionRepresentable}
+use Rattle.gps_position.specs.Position.{Angle, latitude, longitude, wholePart, decimals, hemisphere}
+use Rattle.gps_position.specs.Position.{angleMagnitude, angleDigits, positionDigits, inRange, positionFault}
+use Rattle.gps_position.specs.Position.{angleOf, positionOf, angleBytes, angleText, positionText}
+use Rattle.gps_position.specs.Position.{positionRepresentable}
 use Rattle.gps_position.proofs.AlignedWrittenLaws.{value-aligned, aligned-right, four-digits, value-after}
 
 -- ---- an angle
 -- the bytes of an angle at its places
-record Holds (a : Angle) (z : ℤ) (s : List ℕ) : Type 0 where
+record Spelled (a : Angle) (z : ℤ) (s : List ℕ) : Type 0 where
   whole : wholePart a s ≡ aligned (a .whole) (natAbs z / 10000)
   after : decimals a s ≡ digits 4 (natAbs z)
   letter : hemisphere a s ≡ signByte (code (a .above)) (code (a .below)) z
@@ -38,17 +39,17 @@ record Read (a : Angle) (z : ℤ) (s : List ℕ) : Type 0 where
 -- an angle has places for its limit, and two letters
 angle-read : (a : Angle) → 0 < a .whole → a .limit < 10000 * 10 ^ a .whole
     → eqb (code (a .above)) (code (a .below)) ≡ false → (z : ℤ) → natAbs z ≤ a .limit
-    → (s : List ℕ) → Holds a z s → Read a z s
+    → (s : List ℕ) → Spelled a z s → Read a z s
 unfolding angleDigits inRange angleOf
 angle-read a some room differ z small s h =
     let degrees : natAbs z / 10000 < 10 ^ a .whole = omega arith in
-    let size : angleSize a s ≡ natAbs z =
+    let magnitude : angleMagnitude a s ≡ natAbs z =
     rw (h .whole, h .after, valueFrom-append 0, value-aligned (a .whole) (natAbs z / 10000) degrees)
     (value-after 4 (natAbs z)) in
     record {
       stand = rw (h .whole, h .after, aligned-right (a .whole) (natAbs z / 10000) some degrees, four-digits (natAbs z));
-      range = rw (h .letter, size) (sign-written (code (a .above)) (code (a .below)) differ (a .limit) z small);
-      same = rw (h .letter, size) (sign-read (code (a .above)) (code (a .below)) differ z);
+      range = rw (h .letter, magnitude) (sign-written (code (a .above)) (code (a .below)) differ (a .limit) z small);
+      same = rw (h .letter, magnitude) (sign-read (code (a .above)) (code (a .below)) differ z);
     }
 
 -- ---- the position
@@ -60,19 +61,19 @@ unfolding positionText angleBytes aligned padded digits ascii
 position-parts p a b c north east = rw (a, b, c, north, east)
 
 module _ (p : Position) (s : List ℕ) (e : slice 41 23 s ≡ positionText p) where
-  latitude-holds : Holds latitude (p .latitude) s
+  latitude-spelled : Spelled latitude (p .latitude) s
   unfolding positionText angleBytes aligned padded digits ascii
-  latitude-holds =
+  latitude-spelled =
       record { whole = λ i. slice 0 2 (e i); after = λ i. slice 3 4 (e i); letter = λ i. getD (e i) 7 0 }
 
-  longitude-holds : Holds longitude (p .longitude) s
+  longitude-spelled : Spelled longitude (p .longitude) s
   unfolding positionText angleBytes aligned padded digits ascii
-  longitude-holds =
+  longitude-spelled =
       record { whole = λ i. slice 9 3 (e i); after = λ i. slice 13 4 (e i); letter = λ i. getD (e i) 17 0 }
 
-  height-holds : slice 60 4 s ≡ aligned 4 (p .height)
+  height-spelled : slice 60 4 s ≡ aligned 4 (p .height)
   unfolding positionText angleBytes aligned padded digits ascii
-  height-holds i = slice 19 4 (e i)
+  height-spelled i = slice 19 4 (e i)
 
 pub record PositionRead (p : Position) (s : List ℕ) : Type 0 where
   pub faultless : positionFault s ≡ false
@@ -88,11 +89,11 @@ position-read p h s e =
     let v = both north east (w .0) in
     let high : p .height < 10 ^ 4 = omega (arith, leb-true (p .height) 9999 (w .1)) in
     let n =
-    angle-read latitude (lit< tt) (lit< tt) refl (p .latitude) (leb-true _ _ (v .0)) s (latitude-holds p s e) in
+    angle-read latitude (lit< tt) (lit< tt) refl (p .latitude) (leb-true _ _ (v .0)) s (latitude-spelled p s e) in
     let o =
-    angle-read longitude (lit< tt) (lit< tt) refl (p .longitude) (leb-true _ _ (v .1)) s (longitude-holds p s e) in
-    let height : number 4 60 s ≡ p .height = rw (height-holds p s e) (value-aligned 4 (p .height) high) in
-    let aligned-height = rw (← (height-holds p s e)) at (aligned-right 4 (p .height) (lit< tt) high) in
+    angle-read longitude (lit< tt) (lit< tt) refl (p .longitude) (leb-true _ _ (v .1)) s (longitude-spelled p s e) in
+    let height : number 4 60 s ≡ p .height = rw (height-spelled p s e) (value-aligned 4 (p .height) high) in
+    let aligned-height = rw (← (height-spelled p s e)) at (aligned-right 4 (p .height) (lit< tt) high) in
     record {
       faultless = rw (n .stand, o .stand, aligned-height, n .range, o .range);
       same = λ i. record { latitude = n .same i; longitude = o .same i; height = height i };

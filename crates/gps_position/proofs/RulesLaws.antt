@@ -16,9 +16,9 @@ use Rattle.decimal.proofs.DecimalLaws.{digit-range}
 use Rattle.layout.specs.Layout.{number}
 use Rattle.signed.proofs.SignedLaws.{SignRules, sign-exactly}
 use Rattle.gps_position.specs.Aligned.{areDigits, rightAligned}
-use Rattle.gps_position.specs.Position.{latitude, longitude, angleSize}
+use Rattle.gps_position.specs.Position.{latitude, longitude, angleMagnitude}
 use Rattle.gps_position.specs.Position.{angleDigits, positionDigits, inRange, positionFault}
-use Rattle.gps_position.specs.Rules.{DigitsAt, WholePart, fourDigitsAt, latitudeSize, longitudeSize}
+use Rattle.gps_position.specs.Rules.{DigitsAt, WholePart, fourDigitsAt, latitudeMagnitude, longitudeMagnitude}
 use Rattle.gps_position.specs.Rules.{PositionRules}
 use Rattle.gps_position.proofs.AlignedLaws.{aligned-ways, aligned-blank}
 use Rattle.gps_position.proofs.AlignedWrittenLaws.{high-first}
@@ -124,29 +124,29 @@ whole-aligned s (suc n) first end e w =
     (aligned-blank (getD s (suc first) 0) (slice (suc (suc first)) n s)
     ∙ whole-aligned s n (suc first) end (omega (arith, e)) rest)
 
--- ---- sizes
+-- ---- magnitudes
 module _ (s : List ℕ) where
-  pub latitude-size : angleSize latitude s ≡ latitudeSize s
+  pub latitude-magnitude : angleMagnitude latitude s ≡ latitudeMagnitude s
   unfolding valueFrom
-  latitude-size = omega arith
+  latitude-magnitude = omega arith
 
-  pub longitude-size : angleSize longitude s ≡ longitudeSize s
+  pub longitude-magnitude : angleMagnitude longitude s ≡ longitudeMagnitude s
   unfolding valueFrom
-  longitude-size = omega arith
+  longitude-magnitude = omega arith
 
-  pub height-size : number 4 60 s ≡ fourDigitsAt s 60
+  pub height-number : number 4 60 s ≡ fourDigitsAt s 60
   unfolding valueFrom
-  height-size = omega arith
+  height-number = omega arith
 
 -- ---- positions
 module _ (s : List ℕ) where
-  latitude-signs : (inRange latitude s ≡ true) ↔ SignRules 78 83 900000 (getD s 48 0) (latitudeSize s)
+  latitude-signs : (inRange latitude s ≡ true) ↔ SignRules 78 83 900000 (getD s 48 0) (latitudeMagnitude s)
   unfolding inRange
-  latitude-signs = rw (latitude-size s) (sign-exactly 78 83 900000 (getD s 48 0) (latitudeSize s))
+  latitude-signs = rw (latitude-magnitude s) (sign-exactly 78 83 900000 (getD s 48 0) (latitudeMagnitude s))
 
-  longitude-signs : (inRange longitude s ≡ true) ↔ SignRules 69 87 1800000 (getD s 58 0) (longitudeSize s)
+  longitude-signs : (inRange longitude s ≡ true) ↔ SignRules 69 87 1800000 (getD s 58 0) (longitudeMagnitude s)
   unfolding inRange
-  longitude-signs = rw (longitude-size s) (sign-exactly 69 87 1800000 (getD s 58 0) (longitudeSize s))
+  longitude-signs = rw (longitude-magnitude s) (sign-exactly 69 87 1800000 (getD s 58 0) (longitudeMagnitude s))
 
   fault-rules : positionFault s ≡ false → PositionRules s
   fault-rules h =

@@ -12,9 +12,9 @@ use Rattle.clock_time.specs.declared.Position.{Position}
 use Rattle.signed.specs.Signed.{signed}
 use Rattle.gps_position.specs.Position.{angleOf, positionOf}
 use Rattle.gps_position.specs.Rules.{PositionRules, SaysPosition}
-use Rattle.gps_position.proofs.RulesLaws.{latitude-size, longitude-size, height-size}
+use Rattle.gps_position.proofs.RulesLaws.{latitude-magnitude, longitude-magnitude, height-number}
 
--- ---- a size with one of two signs
+-- ---- a magnitude with one of two signs
 module _ (b above below : ℕ) {m n : ℕ} (e : m ≡ n) where
   pub signed-above : (above ≡ below → ⊥) → b ≡ above → signed (eqb b below) m ≡ pos n
   unfolding signed
@@ -33,18 +33,18 @@ pub position-says : (s : List ℕ) → SaysPosition s (positionOf s)
 unfolding positionOf angleOf
 position-says s =
     record {
-      north = signed-above (getD s 48 0) 78 83 (latitude-size s) (λ z. omega arith);
-      south = signed-below (getD s 48 0) 78 83 (latitude-size s);
-      east = signed-above (getD s 58 0) 69 87 (longitude-size s) (λ z. omega arith);
-      west = signed-below (getD s 58 0) 69 87 (longitude-size s);
-      height = height-size s;
+      north = signed-above (getD s 48 0) 78 83 (latitude-magnitude s) (λ z. omega arith);
+      south = signed-below (getD s 48 0) 78 83 (latitude-magnitude s);
+      east = signed-above (getD s 58 0) 69 87 (longitude-magnitude s) (λ z. omega arith);
+      west = signed-below (getD s 58 0) 69 87 (longitude-magnitude s);
+      height = height-number s;
     }
 
 pub position-said : (s : List ℕ) (p : Position) → PositionRules s → SaysPosition s p → p ≡ positionOf s
 unfolding positionOf angleOf
 position-said s p r h =
-    let lat = signed-said (getD s 48 0) 78 83 (latitude-size s) (p .latitude) (λ z. omega arith) (h .north) (h .south)
-    (r .latitude-letter) in
-    let lon = signed-said (getD s 58 0) 69 87 (longitude-size s) (p .longitude) (λ z. omega arith) (h .east) (h .west)
-    (r .longitude-letter) in
-    λ i. record { latitude = lat i; longitude = lon i; height = (h .height ∙ sym (height-size s)) i }
+    let lat = signed-said (getD s 48 0) 78 83 (latitude-magnitude s) (p .latitude) (λ z. omega arith) (h .north)
+    (h .south) (r .latitude-letter) in
+    let lon = signed-said (getD s 58 0) 69 87 (longitude-magnitude s) (p .longitude) (λ z. omega arith) (h .east)
+    (h .west) (r .longitude-letter) in
+    λ i. record { latitude = lat i; longitude = lon i; height = (h .height ∙ sym (height-number s)) i }

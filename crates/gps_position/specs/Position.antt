@@ -47,8 +47,8 @@ abbrev pub hemisphere : Angle → List ℕ → ℕ
 hemisphere a s = getD s (a .first + a .whole + 5) 0
 
 -- a blank counts as 0, since 32 - 48 is 0
-abbrev pub angleSize : Angle → List ℕ → ℕ
-angleSize a s = value (wholePart a s ++ decimals a s)
+abbrev pub angleMagnitude : Angle → List ℕ → ℕ
+angleMagnitude a s = value (wholePart a s ++ decimals a s)
 
 -- the digits and blanks of an angle stand where they must
 unfoldable pub angleDigits : Angle → List ℕ → Bool
@@ -61,7 +61,7 @@ positionDigits s = angleDigits latitude s && angleDigits longitude s && rightAli
 
 -- "at most 900,000 and 1,800,000; a zero with S or W is refused" (01, Meinberg and ELV strings)
 unfoldable pub inRange : Angle → List ℕ → Bool
-inRange a s = signHolds (code (a .above)) (code (a .below)) (a .limit) (hemisphere a s) (angleSize a s)
+inRange a s = signHolds (code (a .above)) (code (a .below)) (a .limit) (hemisphere a s) (angleMagnitude a s)
 
 -- "All faults in 41..63 but the fixed bytes at 43, 49, 53 and 59 are 9." (01, Meinberg and ELV strings)
 unfoldable pub positionFault : List ℕ → Bool
@@ -69,7 +69,7 @@ positionFault s = not (positionDigits s && inRange latitude s && inRange longitu
 
 -- "Kept as signed ten-thousandths of a degree, S and W below zero" (01, Meinberg and ELV strings)
 unfoldable pub angleOf : Angle → List ℕ → ℤ
-angleOf a s = signed (eqb (hemisphere a s) (code (a .below))) (angleSize a s)
+angleOf a s = signed (eqb (hemisphere a s) (code (a .below))) (angleMagnitude a s)
 
 -- the position that a string says; a blank of the height counts as 0, as in an angle
 unfoldable pub positionOf : List ℕ → Position
@@ -79,7 +79,7 @@ positionOf s = record { latitude = angleOf latitude s; longitude = angleOf longi
 unfoldable pub readPosition : List ℕ → Answer Position
 readPosition s = checked (given 9 (positionFault s) ∷ []) (positionOf s)
 
--- a position from its two letters, the sizes of its angles and its height, or 9
+-- a position from its two letters, the magnitudes of its angles and its height, or 9
 abbrev pub positionFrom : ℕ → ℕ → ℕ → ℕ → ℕ → Answer Position
 positionFrom latitudeLetter lat longitudeLetter lon height =
     checked

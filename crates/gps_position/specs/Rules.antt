@@ -32,12 +32,12 @@ abbrev pub fourDigitsAt : List ℕ → ℕ → ℕ
 fourDigitsAt s i = 100 * twoDigitsAt s i + twoDigitsAt s (suc (suc i))
 
 -- "latitude 41..48", "each point at 43" (01, Meinberg and ELV strings), in ten-thousandths of a degree
-abbrev pub latitudeSize : List ℕ → ℕ
-latitudeSize s = 10000 * twoDigitsAt s 41 + fourDigitsAt s 44
+abbrev pub latitudeMagnitude : List ℕ → ℕ
+latitudeMagnitude s = 10000 * twoDigitsAt s 41 + fourDigitsAt s 44
 
 -- "longitude 50..58", "each point at [..] 53" (01, Meinberg and ELV strings)
-abbrev pub longitudeSize : List ℕ → ℕ
-longitudeSize s = 10000 * (100 * digitAt s 50 + twoDigitsAt s 51) + fourDigitsAt s 54
+abbrev pub longitudeMagnitude : List ℕ → ℕ
+longitudeMagnitude s = 10000 * (100 * digitAt s 50 + twoDigitsAt s 51) + fourDigitsAt s 54
 
 -- the rules of a position (01, Meinberg and ELV strings)
 pub record PositionRules (s : List ℕ) : Type 0 where
@@ -52,19 +52,19 @@ pub record PositionRules (s : List ℕ) : Type 0 where
   pub latitude-letter : Stands s 48 "N" ⊎ Stands s 48 "S"
   pub longitude-letter : Stands s 58 "E" ⊎ Stands s 58 "W"
   -- "at most 900,000 and 1,800,000"
-  pub latitude-most : latitudeSize s ≤ 900000
-  pub longitude-most : longitudeSize s ≤ 1800000
+  pub latitude-most : latitudeMagnitude s ≤ 900000
+  pub longitude-most : longitudeMagnitude s ≤ 1800000
   -- "a zero with S or W is refused"
-  pub south-zero : latitudeSize s ≡ 0 → Stands s 48 "S" → ⊥
-  pub west-zero : longitudeSize s ≡ 0 → Stands s 58 "W" → ⊥
+  pub south-zero : latitudeMagnitude s ≡ 0 → Stands s 48 "S" → ⊥
+  pub west-zero : longitudeMagnitude s ≡ 0 → Stands s 58 "W" → ⊥
 
 -- "Kept as signed ten-thousandths of a degree, S and W below zero"; "N or S at 48, E or W at 58"; "height 60..63" (01,
 -- Meinberg and ELV strings): the string s says the position p
 pub record SaysPosition (s : List ℕ) (p : Position) : Type 0 where
-  pub north : Stands s 48 "N" → p .latitude ≡ pos (latitudeSize s)
-  pub south : Stands s 48 "S" → p .latitude ≡ negℤ (pos (latitudeSize s))
-  pub east : Stands s 58 "E" → p .longitude ≡ pos (longitudeSize s)
-  pub west : Stands s 58 "W" → p .longitude ≡ negℤ (pos (longitudeSize s))
+  pub north : Stands s 48 "N" → p .latitude ≡ pos (latitudeMagnitude s)
+  pub south : Stands s 48 "S" → p .latitude ≡ negℤ (pos (latitudeMagnitude s))
+  pub east : Stands s 58 "E" → p .longitude ≡ pos (longitudeMagnitude s)
+  pub west : Stands s 58 "W" → p .longitude ≡ negℤ (pos (longitudeMagnitude s))
   pub height : p .height ≡ fourDigitsAt s 60
 
 -- 9: "position" (01, Refusal numbers)

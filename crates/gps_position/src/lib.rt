@@ -40,7 +40,7 @@ fn digits_hold(s: &[u8]) -> bool
 }
 
 // An angle in ten-thousandths of a degree, whatever its sign.
-fn angle_size(a: u8, b: u8, c: u8, d: u8, e: u8, f: u8, g: u8) -> u32
+fn angle_magnitude(a: u8, b: u8, c: u8, d: u8, e: u8, f: u8, g: u8) -> u32
     requires { ⌜ (digitsOrBlanks (a ∷ b ∷ c ∷ []) ≡ true) × (digitsOrBlanks (d ∷ e ∷ f ∷ g ∷ []) ≡ true) ⌝ }
     ensures { λ r. ⌜ r ≡ value (a ∷ b ∷ c ∷ d ∷ e ∷ f ∷ g ∷ []) ⌝ }
 {
@@ -54,7 +54,8 @@ fn height(s: &[u8]) -> u16
     digits::four(s[60], s[61], s[62], s[63]) as u16
 }
 
-// The position of two letters, two sizes and a height. Refuses with Position (9) if a letter or a size is none.
+// The position of two letters, two magnitudes and a height. Refuses with Position (9) if a letter or a magnitude is
+// none.
 fn position_from(
     latitude_letter: u8,
     lat: u32,
@@ -81,8 +82,8 @@ fn read_digits(s: &[u8]) -> PositionAnswer
     requires { ⌜ (64 ≤ length (now s)) × (positionDigits (now s) ≡ true) ⌝ }
     ensures { λ r. ⌜ positionAnswer r ≡ readPosition (now (s .entry)) ⌝ }
 {
-    let latitude = angle_size(b' ', s[41], s[42], s[44], s[45], s[46], s[47]);
-    let longitude = angle_size(s[50], s[51], s[52], s[54], s[55], s[56], s[57]);
+    let latitude = angle_magnitude(b' ', s[41], s[42], s[44], s[45], s[46], s[47]);
+    let longitude = angle_magnitude(s[50], s[51], s[52], s[54], s[55], s[56], s[57]);
     position_from(s[48], latitude, s[58], longitude, height(s))
 }
 
@@ -140,7 +141,7 @@ pub fn position_text(p: Position) -> PositionText
 pub fn is_representable(p: Position) -> bool
     ensures { λ r. ⌜ r ≡ positionRepresentable p ⌝ }
 {
-    (signed::size(p.latitude) <= 900000)
-        & (signed::size(p.longitude) <= 1800000)
+    (signed::magnitude(p.latitude) <= 900000)
+        & (signed::magnitude(p.longitude) <= 1800000)
         & (p.height <= 9999)
 }

@@ -42,9 +42,9 @@ fn decimals(n: u32) -> [u8; 4]
 pub(crate) fn angle_text(above: u8, below: u8, angle: i32) -> [u8; 9]
     ensures { λ r. ⌜ r ≡ angleBytes 3 above below angle ⌝ }
 {
-    let size = signed::size(angle);
-    let whole = aligned_text(size / 10000);
-    let after = decimals(size);
+    let magnitude = signed::magnitude(angle);
+    let whole = aligned_text(magnitude / 10000);
+    let after = decimals(magnitude);
     let letter = signed::sign_byte(above, below, angle);
     [
         whole[1],

@@ -10,13 +10,13 @@ use lib.Dec.{eqb}
 use Rattle.clock_time.specs.Errors.{accepted, Passes}
 use Rattle.clock_time.specs.Writing.{Written, writing, writeBack}
 use Rattle.clock_time.specs.declared.ClockTime.{ClockTime}
-use Rattle.clock_time.proofs.BackLaws.{decided}
+use Rattle.clock_time.proofs.FaithfulLaws.{decided}
 use Rattle.clock_time.proofs.SameLaws.{eqb-refl, sameTime-refl, sameTime-true}
 use Rattle.clock_time.proofs.Tests.{both}
 use Rattle.gregorian.specs.Date.{fullYear, supportedDate}
 use Rattle.calendar.specs.UnixTime.{offsetInRange, isReading}
 use Rattle.calendar.specs.Representable.{isRepresentable}
-use Rattle.calendar.proofs.ValidLaws.{year-back}
+use Rattle.calendar.proofs.ValidLaws.{full-year-last-two}
 use Rattle.calendar.proofs.RepresentableLaws.{representable-reading, represented, checked-representable}
 use Rattle.decimal.specs.Decimal.{digits, value}
 use Rattle.decimal.proofs.DecimalLaws.{value-digits}
@@ -42,7 +42,8 @@ module _ (t : ClockTime) (h : isRepresentable t ≡ true) where
   year-written =
       let d = represented t h .date in
       let small : t .year % 100 < 100 = omega arith in
-      rw (year-digits (t .year), value-digits 2 (t .year % 100) small) (year-back (t .year) (d .year-least) (d .year-most))
+      rw (year-digits (t .year), value-digits 2 (t .year % 100) small)
+      (full-year-last-two (t .year) (d .year-least) (d .year-most))
 
   pub month-written : value (digits 2 (t .month)) ≡ t .month
   month-written = value-digits 2 (t .month) (omega (arith, represented t h .date .month-most))

@@ -8,7 +8,7 @@ use Rattle.clock_time.specs.Errors.{accepted, refused}
 use Rattle.clock_time.specs.Order.{Gives}
 use Rattle.clock_time.specs.Faithful.{Faithful}
 use Rattle.clock_time.specs.declared.ClockTime.{ClockTime}
-use Rattle.clock_time.proofs.BackLaws as writing
+use Rattle.clock_time.proofs.FaithfulLaws as writing
 use Rattle.clock_time.proofs.OrderLaws as orders
 use Rattle.calendar.specs.Rules.{ReadingRules}
 use Rattle.layout.specs.Text.{Format, WrittenFormat, clockFormat, textChecks, readText, writeText}
@@ -57,11 +57,11 @@ pub faithful : {A : Type 0} (w : WrittenFormat A) (Accepts : List ℕ → A → 
     → ((a : A) → w .same a a ≡ true) → ((a b : A) → w .same a b ≡ true → a ≡ b)
     → Faithful Accepts (readText f) (writeText w)
 unfolding writeText
-faithful {A} w Accepts exact back same-refl same-true =
+faithful {A} w Accepts exact text-fields same-refl same-true =
     writing.faithful (readText f) (w .text) (w .same) text-read same-refl same-true Accepts exact
   where
     f : Format A
     f = w .format
 
     text-read : (s : List ℕ) (a : A) → readText f s ≡ accepted a → w .text a ≡ s
-    text-read s a h = let r = read-passes f s a h in rw (r .1) (back s (r .0))
+    text-read s a h = let r = read-passes f s a h in rw (r .1) (text-fields s (r .0))

@@ -94,9 +94,9 @@ module _ (P : ℕ → Type 0) (b : ℕ) where
       go false false false e f g h = absurd (false≢true h)
 
 -- a flag's letter is written as it was read
-pub letter-back : {l s : List ℕ} → FitsLayout l s → (at n : ℕ) → (ltb n 256 && eqb (getD l at 0) (flagOf n)) ≡ true
+pub letter-has : {l s : List ℕ} → FitsLayout l s → (at n : ℕ) → (ltb n 256 && eqb (getD l at 0) (flagOf n)) ≡ true
     → cond (eqb (getD s at 0) n) n 32 ≡ getD s at 0
-letter-back {l} {s} h at n e =
+letter-has {l} {s} h at n e =
     let w = both (ltb n 256) (eqb (getD l at 0) (flagOf n)) e in
     let p = eqb-true (getD l at 0) (flagOf n) (w .1) in
     let fits = rw p at (h .at at (place-within l at (flagOf n) (omega arith) p)) in

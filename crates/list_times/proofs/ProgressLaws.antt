@@ -13,13 +13,14 @@ use Rattle.framing.proofs.FeedLaws.{rest}
 use Rattle.listing.specs.Listing.{after}
 use Rattle.listing.specs.declared.Listing.{Listing}
 use Rattle.listing.proofs.ListingLaws.{after-append}
-use Rattle.list_times.specs.Progress.{Holds, Takes, Lists, Reaches}
+use Rattle.list_times.specs.Progress.{StartsWith, Takes, Lists, Reaches}
 use Rattle.list_times.specs.declared.Part.{Part}
 use Rattle.list_times.specs.declared.State.{State}
 
 -- what was written stands at the front
-pub written-holds : (n : ℕ) (x text d : List ℕ) → written (answers.Written n) x ≡ writing true text d → Holds x n text
-written-holds n x text d e =
+pub written-starts : (n : ℕ) (x text d : List ℕ) → written (answers.Written n) x ≡ writing true text d
+    → StartsWith x n text
+written-starts n x text d e =
     let w = writing-accepted text d true n (sym (ap (λ (o : Written). o .answer) e)) in
     let m : x ≡ text ++ drop (length text) d = ap (λ (o : Written). o .memory) e ∙ w .2 in
     rw (w .1, m) (omega (arith, length-append text (drop (length text) d)), take-append-seam text _)

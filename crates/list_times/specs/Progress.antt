@@ -10,8 +10,8 @@ use Rattle.list_times.specs.declared.Part.{Part}
 use Rattle.list_times.specs.declared.State.{State}
 
 -- the first n bytes of a buffer are a text
-abbrev pub Holds : List ℕ → ℕ → List ℕ → Type 0
-Holds buffer n text = (n ≤ length buffer) × (take n buffer ≡ text)
+abbrev pub StartsWith : List ℕ → ℕ → List ℕ → Type 0
+StartsWith buffer n text = (n ≤ length buffer) × (take n buffer ≡ text)
 
 -- of the bytes s some are taken where there are any, and the listing is the one after them
 pub record Takes (l : Listing) (s : List ℕ) (r : Part) : Type 0 where

@@ -11,7 +11,7 @@ ghost use Rattle.clock_time.specs.Lists.{ascii};
 ghost use Rattle.io.specs.Counts.{Counts};
 ghost use Rattle.listing_lines.specs.Totals.{totalsLine};
 ghost use Rattle.listing.specs.Listing.{textOf};
-ghost use Rattle.list_times.specs.Progress.{Holds, Takes, Lists, Reaches};
+ghost use Rattle.list_times.specs.Progress.{StartsWith, Takes, Lists, Reaches};
 
 // The state between two reads; `is_open` until a write fails.
 struct State {
@@ -52,14 +52,14 @@ fn write_heading(text: &[u8]) -> bool
 // Writes the first n bytes of out, which are the text of the bytes s after `listing`. Of these two only the `requires`
 // speaks.
 fn write_text(listing: Listing, s: &[u8], out: &[u8], n: usize) -> bool
-    requires { ⌜ Holds (now out) n (textOf listing (now s)) ⌝ }
+    requires { ⌜ StartsWith (now out) n (textOf listing (now s)) ⌝ }
 {
     write_start(out, n)
 }
 
 // Writes the first n bytes of out, which are the line of the totals of `end`. Of `end` only the `requires` speaks.
 fn write_last(end: Listing, out: &[u8], n: usize) -> bool
-    requires { ⌜ Holds (now out) n (totalsLine (end .totals)) ⌝ }
+    requires { ⌜ StartsWith (now out) n (totalsLine (end .totals)) ⌝ }
 {
     write_start(out, n)
 }

@@ -15,7 +15,7 @@ use Rattle.listing.specs.declared.Listing.{Listing}
 use Rattle.listing.specs.declared.Listed.{Listed}
 use Rattle.listing.specs.Items.{string, overlong, readString, itemOf, itemLine}
 use Rattle.listing.specs.Listing.{itemAt, stepListing, after, textOf, takenOf, ListedInto, listedInto, listOf}
-use Rattle.listing.specs.Calls.{taken, text, Calls, none, call}
+use Rattle.listing.specs.Calls.{bytesTaken, text, Calls, none, call}
 use Rattle.listing.proofs.ItemsLaws.{line-short}
 use Rattle.listing.proofs.ListingLaws.{after-append, text-append, taken-full, taken-on, agrees}
 
@@ -24,11 +24,11 @@ pub record Whole (l : Listing) (input shown : List ℕ) (end : Listing) : Type 0
   pub state : end ≡ after l input
 
 module _ (l : Listing) (s buffer : List ℕ) where
-  pub call-text : text (listOf l s buffer) ≡ textOf l (taken s (listOf l s buffer))
+  pub call-text : text (listOf l s buffer) ≡ textOf l (bytesTaken s (listOf l s buffer))
   unfolding listOf
   call-text = take-append-seam (textOf l (take (takenOf l s (length buffer)) s)) _
 
-  pub call-state : listOf l s buffer .listing ≡ after l (taken s (listOf l s buffer))
+  pub call-state : listOf l s buffer .listing ≡ after l (bytesTaken s (listOf l s buffer))
   unfolding listOf
   call-state = refl
 
@@ -37,7 +37,7 @@ unfolding textOf after
 whole none = record { text = refl; state = refl }
 whole {l} (call s buffer {input} {shown} {end} rest) =
     let w = whole rest in
-    let n = taken s (listOf l s buffer) in
+    let n = bytesTaken s (listOf l s buffer) in
     record {
       text =
           ap (λ (x : List ℕ). x ++ shown) (call-text l s buffer)
@@ -106,10 +106,10 @@ module _ (l : Listing) (s buffer out : List ℕ) (r : Listed) (e : listedInto r 
       subst (λ (x : ListedInto). 0 < x .taken) (sym e) (taken-some l s (length buffer) room some)
 
   pub listed-state : r .listing ≡ after l (take (r .taken) s)
-  listed-state = subst (λ (x : ListedInto). x .listing ≡ after l (taken s x)) (sym e) (call-state l s buffer)
+  listed-state = subst (λ (x : ListedInto). x .listing ≡ after l (bytesTaken s x)) (sym e) (call-state l s buffer)
 
   pub listed-text : take (r .length) out ≡ textOf l (take (r .taken) s)
-  listed-text = subst (λ (x : ListedInto). text x ≡ textOf l (taken s x)) (sym e) (call-text l s buffer)
+  listed-text = subst (λ (x : ListedInto). text x ≡ textOf l (bytesTaken s x)) (sym e) (call-text l s buffer)
 
   pub listed-fits : r .length ≤ length out
   unfolding listOf

@@ -11,7 +11,7 @@ use Rattle.clock_time.specs.declared.Error.{Error}
 use Rattle.clock_time.specs.declared.Error.the-variants as errors
 use Rattle.clock_time.specs.declared.ClockTime.{ClockTime}
 use Rattle.clock_time.specs.Lists.{ascii}
-use Rattle.listing_lines.specs.Line.{lineOf}
+use Rattle.listing_lines.specs.Line.{timeLine}
 use Rattle.listing_lines.specs.Numeral.{numeral}
 use Rattle.listing_lines.proofs.LineLaws.{length-line}
 use Rattle.listing_lines.proofs.NumeralLaws.{numeral-short}
@@ -54,7 +54,7 @@ number-below errors.NewMark = lit< tt
 number-below errors.Unrepresentable = lit< tt
 
 -- ---- the line of a clock time
-pub shows-line : (t : ClockTime) (text : List ℕ) → text ≡ lineOf t
+pub shows-line : (t : ClockTime) (text : List ℕ) → text ≡ timeLine t
     → Shows (record { text = text; length = 35 }) (string (accepted t))
 unfolding itemLine
 shows-line t text e =

@@ -6,8 +6,8 @@ use Rattle.listing.specs.declared.Listing.{Listing}
 use Rattle.listing.specs.Listing.{ListedInto, listOf}
 
 -- the bytes that a call takes of s
-abbrev pub taken : List ℕ → ListedInto → List ℕ
-taken s r = take (r .taken) s
+abbrev pub bytesTaken : List ℕ → ListedInto → List ℕ
+bytesTaken s r = take (r .taken) s
 
 -- the text that a call put to the front of its buffer
 abbrev pub text : ListedInto → List ℕ
@@ -19,4 +19,4 @@ pub data Calls : Listing → List ℕ → List ℕ → Listing → Type 0 where
   none : {l : Listing} → Calls l [] [] l
   call : {l : Listing} (s buffer : List ℕ) {input shown : List ℕ} {end : Listing}
       → Calls (listOf l s buffer .listing) input shown end
-      → Calls l (taken s (listOf l s buffer) ++ input) (text (listOf l s buffer) ++ shown) end
+      → Calls l (bytesTaken s (listOf l s buffer) ++ input) (text (listOf l s buffer) ++ shown) end

@@ -10,7 +10,7 @@ use Rattle.time_string.specs.declared.Kind.{Kind}
 use Rattle.time_string.specs.Kind.{Reading, readingTime, kindOf, readAs}
 use Rattle.framing.specs.declared.Event.{Event}
 use Rattle.framing.specs.declared.Event.the-variants.{Nothing, Complete, Dropped}
-use Rattle.listing_lines.specs.Line.{lineOf}
+use Rattle.listing_lines.specs.Line.{timeLine}
 use Rattle.listing_lines.specs.Numeral.{numeral}
 use Rattle.listing_lines.specs.declared.Totals.{Totals}
 use Rattle.listing.specs.declared.entry.Entry.{Entry}
@@ -62,7 +62,7 @@ entryItem entries.Dropped = overlong
 -- "refused 6", "A dropped string writes `dropped`", "each line ended by LF" (01, Examples)
 unfoldable pub itemLine : Item → List ℕ
 itemLine nothing = []
-itemLine (string (accepted t)) = lineOf t
+itemLine (string (accepted t)) = timeLine t
 itemLine (string (refused k)) = ascii "refused " ++ numeral k ++ ascii "\n"
 itemLine overlong = ascii "dropped\n"
 

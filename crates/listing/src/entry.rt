@@ -101,7 +101,7 @@ fn refused_line(n: u8) -> Line
 }
 
 // The line of an entry, empty where there is nothing to say.
-pub(crate) fn line_of(entry: Entry) -> Line
+pub(crate) fn entry_line(entry: Entry) -> Line
     ensures { λ r. ⌜ Shows r (entryItem entry) ⌝ }
 {
     match entry {
@@ -110,7 +110,7 @@ pub(crate) fn line_of(entry: Entry) -> Line
             length: 0,
         },
         Entry::Read(t) => Line {
-            text: listing_lines::line::line_of(t),
+            text: listing_lines::line::time_line(t),
             length: 35,
         },
         Entry::Refused(e) => refused_line(clock_time::error_number(e)),

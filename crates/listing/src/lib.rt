@@ -55,7 +55,7 @@ fn next_line(listing: Listing, s: &[u8]) -> LineResult
     let entry = entry::entry_at(&bytes, event);
     let totals = entry::count(totals, entry);
     let listing = Listing { framer, totals };
-    let line = entry::line_of(entry);
+    let line = entry::entry_line(entry);
     LineResult {
         listing,
         line,

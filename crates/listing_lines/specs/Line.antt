@@ -37,10 +37,10 @@ lineWith t offset flags =
     ++ ascii " " ++ flags ++ ascii "\n"
 
 -- the line of a clock time
-unfoldable pub lineOf : ClockTime → List ℕ
-lineOf t = lineWith t (offsetText (t .«utc_offset»)) (flagsText t)
+unfoldable pub timeLine : ClockTime → List ℕ
+timeLine t = lineWith t (offsetText (t .«utc_offset»)) (flagsText t)
 
 -- "Refused with 23 where the fields are no valid reading" (01, The reading); "For a writer: 23, 20" (01, Refusal
 -- numbers)
 unfoldable pub writeLine : ClockTime → List ℕ → Written
-writeLine t buffer = writing (isReading t) (lineOf t) buffer
+writeLine t buffer = writing (isReading t) (timeLine t) buffer

@@ -65,7 +65,7 @@ fn put_number(out: &mut [u8; 86], at: usize, n: u64) -> usize
     put_text(out, at, &digits[start..])
 }
 
-pub(crate) fn line_of(t: Totals) -> TotalsLine
+pub(crate) fn totals_line(t: Totals) -> TotalsLine
     ensures { λ r. ⌜ Shown t r ⌝ }
 {
     let mut text = [0u8; 86];

@@ -21,7 +21,7 @@ pub struct Totals {
 pub fn write_line(t: ClockTime, out: &mut [u8]) -> WriteAnswer
     ensures { λ r. ⌜ written r (now (out .exit)) ≡ writeLine t (now (out .entry)) ⌝ }
 {
-    let text = line::line_of(t);
+    let text = line::time_line(t);
     clock_time::write_bytes(calendar::unix_time::is_reading(t), &text, out)
 }
 
@@ -30,7 +30,7 @@ pub fn write_line(t: ClockTime, out: &mut [u8]) -> WriteAnswer
 pub fn write_totals(t: Totals, out: &mut [u8]) -> WriteAnswer
     ensures { λ r. ⌜ written r (now (out .exit)) ≡ writeTotals t (now (out .entry)) ⌝ }
 {
-    let line = last_line::line_of(t);
+    let line = last_line::totals_line(t);
     let text = line.text;
     let n = line.length;
     clock_time::write_bytes(true, &text[..n], out)

@@ -2,7 +2,7 @@
 use clock_time::ClockTime;
 ghost use mathlib.Core.Path.{_≡_};
 ghost use mathlib.Core.Bool.{cond};
-ghost use Rattle.listing_lines.specs.Line.{flagsText, lineOf};
+ghost use Rattle.listing_lines.specs.Line.{flagsText, timeLine};
 
 fn letter_or_dash(on: bool, letter: u8) -> u8
     ensures { λ r. ⌜ r ≡ cond on letter 45 ⌝ }
@@ -28,8 +28,8 @@ fn flags_text(t: ClockTime) -> [u8; 7]
 pub type LineBytes = [u8; 35];
 
 // The line with the fields of `t`, the bytes of its offset and of its flags.
-pub fn line_of(t: ClockTime) -> LineBytes
-    ensures { λ r. ⌜ r ≡ lineOf t ⌝ }
+pub fn time_line(t: ClockTime) -> LineBytes
+    ensures { λ r. ⌜ r ≡ timeLine t ⌝ }
 {
     let zone = meinberg_gps_writer::parts::offset_text(t.utc_offset);
     let flags = flags_text(t);

@@ -13,13 +13,13 @@ use Rattle.layout.specs.Says.{twoDigitsAt}
 use Rattle.layout.proofs.SaysLaws.{two-digits}
 use Rattle.signed.specs.Signed.{signHolds}
 use Rattle.signed.proofs.SignedLaws.{SignRules, sign-exactly}
-use Rattle.meinberg_gps.specs.Gps.{offsetSize, offsetFault, leapMismatch}
+use Rattle.meinberg_gps.specs.Gps.{offsetMagnitude, offsetFault, leapMismatch}
 use Rattle.meinberg_gps.specs.Says.{offsetMinutes, OffsetRules, LeapLetter}
 use Rattle.meinberg_gps.proofs.OffsetLaws.{faultless}
-use Rattle.meinberg_gps.proofs.BackLaws.{agree}
+use Rattle.meinberg_gps.proofs.FieldsLaws.{agree}
 
-pub offset-size : (s : List ℕ) → offsetSize s ≡ offsetMinutes s
-offset-size s = omega (arith, two-digits s 25, two-digits s 28)
+pub offset-magnitude : (s : List ℕ) → offsetMagnitude s ≡ offsetMinutes s
+offset-magnitude s = omega (arith, two-digits s 25, two-digits s 28)
 
 -- an offset has no fault exactly if its rules hold
 pub offset-exactly : (s : List ℕ) → (offsetFault s ≡ false) ↔ OffsetRules s
@@ -40,9 +40,9 @@ offset-exactly s = (
   ),
 )
   where
-    signs : (signHolds 43 45 840 (getD s 24 0) (offsetSize s) ≡ true)
+    signs : (signHolds 43 45 840 (getD s 24 0) (offsetMagnitude s) ≡ true)
         ↔ SignRules 43 45 840 (getD s 24 0) (offsetMinutes s)
-    signs = rw (offset-size s) (sign-exactly 43 45 840 (getD s 24 0) (offsetMinutes s))
+    signs = rw (offset-magnitude s) (sign-exactly 43 45 840 (getD s 24 0) (offsetMinutes s))
 
 -- two tests agree exactly if what they test does
 same-tests : (a b c d : ℕ) → (not (Bool·beq (eqb a b) (eqb c d)) ≡ false) ↔ ((a ≡ b) ↔ (c ≡ d))

@@ -24,7 +24,7 @@ use Rattle.meinberg_gps.specs.Gps.{gps}
 use Rattle.meinberg_gps.specs.Gps.{writtenGps, writeGps}
 use Rattle.meinberg_gps.specs.declared.GpsTime.{GpsTime}
 use Rattle.meinberg_gps.proofs.OffsetLaws.{OffsetRead, offset-read, offset-in-range}
-use Rattle.meinberg_gps.proofs.BackLaws.{sameGps-refl, sameGps-true}
+use Rattle.meinberg_gps.proofs.FieldsLaws.{sameGps-refl, sameGps-true}
 
 abbrev pub gpsCarries : GpsTime → Bool
 gpsCarries g = positionRepresentable (g .position)

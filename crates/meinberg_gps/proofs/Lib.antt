@@ -1,7 +1,7 @@
 -- Laws of the definitions, and the main results.
 pub mod OffsetLaws
 pub mod ReadLaws
-pub mod BackLaws
+pub mod FieldsLaws
 pub mod AcceptLaws
 pub mod SaysLaws
 pub mod GpsLaws

@@ -17,44 +17,44 @@ use Rattle.layout.specs.Layout.{FitsLayout, number, has}
 use Rattle.layout.proofs.LayoutLaws.{number-below}
 use Rattle.layout.proofs.WriteLaws.{digits-number}
 use Rattle.signed.specs.Signed.{signHolds}
-use Rattle.signed.proofs.SignedLaws.{signed-size, sign-limit, sign-back, sign-read, sign-written}
-use Rattle.meinberg_gps.specs.Gps.{gpsLayout, offsetSize, offsetFault, offsetOf, offsetText}
+use Rattle.signed.proofs.SignedLaws.{signed-magnitude, sign-limit, sign-byte-signed, sign-read, sign-written}
+use Rattle.meinberg_gps.specs.Gps.{gpsLayout, offsetMagnitude, offsetFault, offsetOf, offsetText}
 
-pub offset-small : {s : List ℕ} → FitsLayout gpsLayout s → offsetSize s < 6040
+pub offset-small : {s : List ℕ} → FitsLayout gpsLayout s → offsetMagnitude s < 6040
 unfolding gpsLayout ascii
 offset-small h = omega (arith, number-below h 2 25 refl, number-below h 2 28 refl)
 
 -- ---- an offset without fault
 pub record Faultless (s : List ℕ) : Type 0 where
   pub minutes : number 2 28 s ≤ 59
-  pub sign : signHolds 43 45 840 (getD s 24 0) (offsetSize s) ≡ true
+  pub sign : signHolds 43 45 840 (getD s 24 0) (offsetMagnitude s) ≡ true
 
 pub faultless : (s : List ℕ) → offsetFault s ≡ false → Faultless s
 unfolding offsetFault
 faultless s h =
-    let w = both (leb (number 2 28 s) 59) (signHolds 43 45 840 (getD s 24 0) (offsetSize s)) (not-false _ h) in
+    let w = both (leb (number 2 28 s) 59) (signHolds 43 45 840 (getD s 24 0) (offsetMagnitude s)) (not-false _ h) in
     record { minutes = leb-true (number 2 28 s) 59 (w .0); sign = w .1 }
 
 pub offset-in-range : (s : List ℕ) → offsetFault s ≡ false → offsetInRange (offsetOf s) ≡ true
 unfolding offsetInRange offsetOf
 offset-in-range s h =
-    rw (signed-size (has "-" 24 s) (offsetSize s))
-    (le-leb (offsetSize s) 840 (sign-limit 43 45 840 (getD s 24 0) (offsetSize s) (faultless s h .sign)))
+    rw (signed-magnitude (has "-" 24 s) (offsetMagnitude s))
+    (le-leb (offsetMagnitude s) 840 (sign-limit 43 45 840 (getD s 24 0) (offsetMagnitude s) (faultless s h .sign)))
 
 -- the bytes of an offset at its places
 abbrev pub offsetAt : List ℕ → List ℕ
 offsetAt s = getD s 24 0 ∷ slice 25 2 s ++ ascii ":" ++ slice 28 2 s
 
 -- it is written as it was read
-pub offset-back : {s : List ℕ} → FitsLayout gpsLayout s → offsetFault s ≡ false → offsetText (offsetOf s) ≡ offsetAt s
+pub text-offset : {s : List ℕ} → FitsLayout gpsLayout s → offsetFault s ≡ false → offsetText (offsetOf s) ≡ offsetAt s
 unfolding offsetOf offsetText gpsLayout ascii
-offset-back {s} fit h =
+text-offset {s} fit h =
     let f = faultless s h in
     let hours : (60 * number 2 25 s + number 2 28 s) / 60 ≡ number 2 25 s = omega (arith, f .minutes) in
     let minutes : (60 * number 2 25 s + number 2 28 s) % 60 ≡ number 2 28 s = omega (arith, f .minutes) in
     rw (
-      sign-back 43 45 840 (getD s 24 0) (offsetSize s) (f .sign),
-      signed-size (has "-" 24 s) (offsetSize s),
+      sign-byte-signed 43 45 840 (getD s 24 0) (offsetMagnitude s) (f .sign),
+      signed-magnitude (has "-" 24 s) (offsetMagnitude s),
       hours,
       minutes,
       digits-number fit 2 25 refl,
@@ -76,9 +76,9 @@ offset-read z h s e =
     ap (λ (t : List ℕ). number 2 1 t) e ∙ value-digits 2 (n / 60) (omega arith) in
     let minutes : number 2 28 s ≡ n % 60 =
     ap (λ (t : List ℕ). number 2 4 t) e ∙ value-digits 2 (n % 60) (omega arith) in
-    let size : 60 * (n / 60) + n % 60 ≡ n = omega arith in
+    let magnitude : 60 * (n / 60) + n % 60 ≡ n = omega arith in
     let within : n % 60 ≤ 59 = omega arith in
     record {
-      faultless = rw (minutes, le-leb (n % 60) 59 within, sign, hours, size, sign-written 43 45 refl 840 z small);
-      same = rw (sign, hours, minutes, size) (sign-read 43 45 refl z);
+      faultless = rw (minutes, le-leb (n % 60) 59 within, sign, hours, magnitude, sign-written 43 45 refl 840 z small);
+      same = rw (sign, hours, minutes, magnitude) (sign-read 43 45 refl z);
     }

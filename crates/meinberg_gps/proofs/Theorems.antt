@@ -20,14 +20,14 @@ use Rattle.meinberg_gps.specs.Accepts.{AcceptsGps}
 use Rattle.meinberg_gps.specs.Says.{gpsPicture, RulesGps, SaysGps}
 use Rattle.meinberg_gps.specs.Lines.{gpsLines}
 use Rattle.meinberg_gps.specs.declared.GpsTime.{GpsTime}
-use Rattle.meinberg_gps.proofs.BackLaws.{gps-back, sameGps-refl, sameGps-true}
+use Rattle.meinberg_gps.proofs.FieldsLaws.{text-fields, sameGps-refl, sameGps-true}
 use Rattle.meinberg_gps.proofs.SaysLaws.{in-words}
 use Rattle.meinberg_gps.proofs.GpsLaws.{gpsCarries, decides}
 
 -- demand 2: acceptance, the fields read, and what is written
 pub faithful : Faithful AcceptsGps readGps writeGps
 unfolding readGps writeGps writtenGps gps
-faithful = text.faithful writtenGps AcceptsGps (text.exactly in-words) gps-back sameGps-refl sameGps-true
+faithful = text.faithful writtenGps AcceptsGps (text.exactly in-words) text-fields sameGps-refl sameGps-true
 
 -- its first sentence by itself
 pub read-gps-exactly : (s : List ℕ) (g : GpsTime)
@@ -59,4 +59,4 @@ valid-read = valid-answer writtenGps gpsCarries decides
 pub read-is-written : (s : List ℕ) (g : GpsTime) → (readGps s ≡ accepted g)
     ↔ (((isRepresentable (g .time) && positionRepresentable (g .position)) ≡ true) × (gpsText g ≡ s))
 unfolding readGps writtenGps gps
-read-is-written = read-written writtenGps gpsCarries decides gps-back
+read-is-written = read-written writtenGps gpsCarries decides text-fields

@@ -39,17 +39,17 @@ gpsLayout =
 
 -- ---- the offset
 -- "sign at 24; offset digits at 25, 26, 28, 29" (01, Meinberg and ELV strings), in minutes
-abbrev pub offsetSize : List ℕ → ℕ
-offsetSize s = 60 * number 2 25 s + number 2 28 s
+abbrev pub offsetMagnitude : List ℕ → ℕ
+offsetMagnitude s = 60 * number 2 25 s + number 2 28 s
 
 -- "Offset at most 14:00 either way, its minutes at most 59; `-00:00` is refused with 8." (01, Meinberg and ELV strings)
 -- 8: "offset sign or size" (01, Refusal numbers), so a byte at 24 that is no sign too
 unfoldable pub offsetFault : List ℕ → Bool
-offsetFault s = not (leb (number 2 28 s) 59 && signHolds (code "+") (code "-") 840 (getD s 24 0) (offsetSize s))
+offsetFault s = not (leb (number 2 28 s) 59 && signHolds (code "+") (code "-") 840 (getD s 24 0) (offsetMagnitude s))
 
 -- "offset in minutes (local minus UTC, signed)" (01, The reading)
 unfoldable pub offsetOf : List ℕ → ℤ
-offsetOf s = signed (has "-" 24 s) (offsetSize s)
+offsetOf s = signed (has "-" 24 s) (offsetMagnitude s)
 
 -- the bytes of an offset, from its sign on
 unfoldable pub offsetText : ℤ → List ℕ

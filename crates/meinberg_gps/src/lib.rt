@@ -25,7 +25,7 @@ pub enum GpsAnswer {
     Refused(Error),
 }
 
-fn clock(s: &[u8]) -> ClockTime
+fn fields(s: &[u8]) -> ClockTime
     requires { ⌜ (length (now s) ≡ 66) × FitsLayout gpsLayout (now s) ⌝ }
     ensures { λ r. ⌜ r ≡ clockOf (now (s .entry)) ⌝ }
 {
@@ -64,7 +64,7 @@ fn read_clock(s: &[u8], position: Position) -> GpsAnswer
     requires { ⌜ (length (now s) ≡ 66) × FitsLayout gpsLayout (now s) ⌝ }
     ensures { λ r. ⌜ gpsAnswer r ≡ readClock (now (s .entry)) position ⌝ }
 {
-    match layout::check_clock(clock(s), mismatch(s)) {
+    match layout::check_clock(fields(s), mismatch(s)) {
         ReadAnswer::Read(time) => GpsAnswer::Read(GpsTime {
             time: time,
             position: position,

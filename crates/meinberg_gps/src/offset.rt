@@ -2,11 +2,11 @@
 ghost use mathlib.Core.Path.{_≡_};
 ghost use lib.ListN.{length};
 ghost use Rattle.layout.specs.Layout.{FitsLayout};
-ghost use Rattle.meinberg_gps.specs.Gps.{gpsLayout, offsetSize, offsetFault, offsetOf};
+ghost use Rattle.meinberg_gps.specs.Gps.{gpsLayout, offsetMagnitude, offsetFault, offsetOf};
 
-fn size(s: &[u8]) -> u32
+fn magnitude(s: &[u8]) -> u32
     requires { ⌜ (length (now s) ≡ 66) × FitsLayout gpsLayout (now s) ⌝ }
-    ensures { λ r. ⌜ r ≡ offsetSize (now (s .entry)) ⌝ }
+    ensures { λ r. ⌜ r ≡ offsetMagnitude (now (s .entry)) ⌝ }
 {
     let numbers = byte_words::numbers_at(s, 25);
     60 * (numbers.first as u32) + numbers.second as u32
@@ -18,12 +18,12 @@ pub(crate) fn is_faulty(s: &[u8]) -> bool
     ensures { λ r. ⌜ r ≡ offsetFault (now (s .entry)) ⌝ }
 {
     let numbers = byte_words::numbers_at(s, 25);
-    !((numbers.second <= 59) & signed::sign_holds(b'+', b'-', 840, s[24], size(s)))
+    !((numbers.second <= 59) & signed::sign_holds(b'+', b'-', 840, s[24], magnitude(s)))
 }
 
 pub(crate) fn read(s: &[u8]) -> i16
     requires { ⌜ (length (now s) ≡ 66) × FitsLayout gpsLayout (now s) ⌝ }
     ensures { λ r. ⌜ r ≡ offsetOf (now (s .entry)) ⌝ }
 {
-    signed::with_sign(s[24] == b'-', size(s)) as i16
+    signed::with_sign(s[24] == b'-', magnitude(s)) as i16
 }

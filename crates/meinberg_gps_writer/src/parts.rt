@@ -9,9 +9,9 @@ pub type OffsetText = [u8; 6];
 pub fn offset_text(offset: i16) -> OffsetText
     ensures { λ r. ⌜ r ≡ offsetText offset ⌝ }
 {
-    let size = signed::size(offset as i32);
-    let hours = decimal::pair(size / 60);
-    let minutes = decimal::pair(size % 60);
+    let magnitude = signed::magnitude(offset as i32);
+    let hours = decimal::pair(magnitude / 60);
+    let minutes = decimal::pair(magnitude % 60);
     [
         signed::sign_byte(b'+', b'-', offset as i32),
         (hours % 256) as u8,

@@ -15,20 +15,20 @@ use Rattle.decimal.proofs.DecimalLaws.{digit-written}
 use Rattle.layout.specs.Layout.{allowed, fitsFrom, FitsLayout, has}
 use Rattle.layout.proofs.LayoutLaws.{tested-fits}
 use Rattle.layout.proofs.DecideLaws.{letter-fits, letter-read, numbers-written, DecidesClock}
-use Rattle.layout.proofs.WriteLaws.{restore-fits, digits-number, digits-year, letter-back}
+use Rattle.layout.proofs.WriteLaws.{restore-fits, digits-number, digits-year, letter-has}
 use Rattle.meinberg_pzf.specs.Pzf.{pzfLayout, pzfOffset, pzfFields, pzfText, pzfRepresentable}
 
 -- the offset is 0 exactly if t says so, whatever x is
-offset-back : (utc summer : Bool) → eqℤ (pzfOffset utc summer) (pos 0) ≡ utc
+zero-offset : (utc summer : Bool) → eqℤ (pzfOffset utc summer) (pos 0) ≡ utc
 unfolding pzfOffset eqℤ
-offset-back true summer = refl
-offset-back false true = refl
-offset-back false false = refl
+zero-offset true summer = refl
+zero-offset false true = refl
+zero-offset false false = refl
 
-pub pzf-back : (s : List ℕ) → FitsLayout pzfLayout s → pzfText (pzfFields s) ≡ s
+pub text-fields : (s : List ℕ) → FitsLayout pzfLayout s → pzfText (pzfFields s) ≡ s
 unfolding pzfText pzfFields pzfLayout ascii allowed
-pzf-back s h =
-    simp (digits-number h 2, digits-number h 1, digits-year h, letter-back h, offset-back) (restore-fits h)
+text-fields s h =
+    simp (digits-number h 2, digits-number h 1, digits-year h, letter-has h, zero-offset) (restore-fits h)
 
 -- ---- deciding from the clock time
 text-fits : (t : ClockTime) → FitsLayout pzfLayout (pzfText t)
@@ -37,7 +37,7 @@ text-fits t = tested-fits pzfLayout (pzfText t) refl (simp (digit-written, lette
 
 fields-representable : (s : List ℕ) → pzfRepresentable (pzfFields s) ≡ true
 unfolding pzfRepresentable pzfFields
-fields-representable s = simp (offset-back, eqℤ-refl)
+fields-representable s = simp (zero-offset, eqℤ-refl)
 
 text-says : (t : ClockTime) → isRepresentable t ≡ true → pzfRepresentable t ≡ true → pzfFields (pzfText t) ≡ t
 unfolding pzfRepresentable pzfFields pzfText ascii digits

@@ -21,14 +21,15 @@ use Rattle.meinberg_pzf.specs.Pzf.{pzfText, pzfRepresentable, pzf, readP
 use Rattle.meinberg_pzf.specs.Accepts.{AcceptsPzf}
 use Rattle.meinberg_pzf.specs.Says.{pzfPicture, SaysPzf}
 use Rattle.meinberg_pzf.specs.Lines.{pzfLines}
-use Rattle.meinberg_pzf.proofs.PzfLaws.{pzf-back, decides}
+use Rattle.meinberg_pzf.proofs.PzfLaws.{text-fields, decides}
 use Rattle.meinberg_pzf.proofs.SaysLaws.{in-words}
 
 -- demand 2: acceptance, the fields read, and what is written
 pub faithful : Faithful AcceptsPzf readPzf writePzf
 unfolding readPzf writePzf pzf
 faithful =
-    text.faithful (writtenClock pzf pzfText) AcceptsPzf (text.exactly-letters in-words) (λ s r. pzf-back s (r .clock .fits))
+    text.faithful (writtenClock pzf pzfText) AcceptsPzf (text.exactly-letters in-words)
+    (λ s r. text-fields s (r .clock .fits))
     sameTime-refl sameTime-true
 
 -- its first sentence by itself
@@ -61,4 +62,4 @@ valid-read = clock-valid decides
 pub read-is-written : (s : List ℕ) (t : ClockTime)
     → (readPzf s ≡ accepted t) ↔ (((isRepresentable t && pzfRepresentable t) ≡ true) × (pzfText t ≡ s))
 unfolding readPzf pzf
-read-is-written = clock-written decides (λ s p. pzf-back s (p .clock .fits))
+read-is-written = clock-written decides (λ s p. text-fields s (p .clock .fits))

@@ -21,31 +21,31 @@ use Rattle.decimal.proofs.DecimalLaws.{digit-written}
 use Rattle.layout.specs.Layout.{allowed, fitsFrom, FitsLayout}
 use Rattle.layout.proofs.LayoutLaws.{tested-fits}
 use Rattle.layout.proofs.DecideLaws.{letter-fits, letter-read, numbers-written, DecidesClock}
-use Rattle.layout.proofs.WriteLaws.{restore-fits, digits-number, digits-year, letter-back, either-all}
+use Rattle.layout.proofs.WriteLaws.{restore-fits, digits-number, digits-year, letter-has, either-all}
 use Rattle.meinberg_standard.specs.Standard.{standardLayout, standardZone, standardFields}
 use Rattle.meinberg_standard.specs.Standard.{zoneLetter, announcedLetter, standardText, standardRepresentable}
 
-zone-back : (b : ℕ) → (eqb b 32 || eqb b (code "U") || eqb b (code "S")) ≡ true
+letter-zone : (b : ℕ) → (eqb b 32 || eqb b (code "U") || eqb b (code "S")) ≡ true
     → zoneLetter (standardZone b) (eqb b (code "S")) ≡ b
 unfolding standardZone zoneLetter eqℤ
-zone-back b h = either-all (λ x. zoneLetter (standardZone x) (eqb x (code "S")) ≡ x) b "U" "S" refl refl refl h
+letter-zone b h = either-all (λ x. zoneLetter (standardZone x) (eqb x (code "S")) ≡ x) b "U" "S" refl refl refl h
 
-announced-back : (b : ℕ) → (eqb b 32 || eqb b (code "!") || eqb b (code "A")) ≡ true
+letter-announced : (b : ℕ) → (eqb b 32 || eqb b (code "!") || eqb b (code "A")) ≡ true
     → announcedLetter (eqb b (code "!")) (eqb b (code "A")) ≡ b
 unfolding announcedLetter
-announced-back b h = either-all
+letter-announced b h = either-all
     (λ x. announcedLetter (eqb x (code "!")) (eqb x (code "A")) ≡ x) b "!" "A" refl refl refl h
 
-pub standard-back : (s : List ℕ) → FitsLayout standardLayout s → standardText (standardFields s) ≡ s
+pub text-fields : (s : List ℕ) → FitsLayout standardLayout s → standardText (standardFields s) ≡ s
 unfolding standardText standardFields standardLayout ascii allowed
-standard-back s h =
+text-fields s h =
     simp (
       digits-number h 2,
       digits-number h 1,
       digits-year h,
-      letter-back h,
-      zone-back (getD s 29 0) (h .at 29 (lit< tt)),
-      announced-back (getD s 30 0) (h .at 30 (lit< tt)),
+      letter-has h,
+      letter-zone (getD s 29 0) (h .at 29 (lit< tt)),
+      letter-announced (getD s 30 0) (h .at 30 (lit< tt)),
     )
     (restore-fits h)
 

@@ -21,14 +21,15 @@ use Rattle.meinberg_standard.specs.Standard.{standardText, standardRepre
 use Rattle.meinberg_standard.specs.Accepts.{AcceptsStandard}
 use Rattle.meinberg_standard.specs.Says.{standardPicture, SaysStandard}
 use Rattle.meinberg_standard.specs.Lines.{standardLines}
-use Rattle.meinberg_standard.proofs.StandardLaws.{standard-back, decides}
+use Rattle.meinberg_standard.proofs.StandardLaws.{text-fields, decides}
 use Rattle.meinberg_standard.proofs.SaysLaws.{in-words}
 
 -- demand 2: acceptance, the fields read, and what is written
 pub faithful : Faithful AcceptsStandard readStandard writeStandard
 unfolding readStandard writeStandard standard
 faithful =
-    text.faithful (writtenClock standard standardText) AcceptsStandard (text.exactly-letters in-words) (λ s r. standard-back s (r .clock .fits))
+    text.faithful (writtenClock standard standardText) AcceptsStandard (text.exactly-letters in-words)
+    (λ s r. text-fields s (r .clock .fits))
     sameTime-refl sameTime-true
 
 -- its first sentence by itself
@@ -61,4 +62,4 @@ valid-read = clock-valid decides
 pub read-is-written : (s : List ℕ) (t : ClockTime)
     → (readStandard s ≡ accepted t) ↔ (((isRepresentable t && standardRepresentable t) ≡ true) × (standardText t ≡ s))
 unfolding readStandard standard
-read-is-written = clock-written decides (λ s p. standard-back s (p .clock .fits))
+read-is-written = clock-written decides (λ s p. text-fields s (p .clock .fits))

@@ -1,6 +1,6 @@
 // The serial feed over a state of 68 bytes.
 ghost use mathlib.Core.Path.{_≡_};
-ghost use Rattle.clock_time.specs.Called.{called, left};
+ghost use Rattle.clock_time.specs.Called.{called, calledMemory};
 ghost use Rattle.feed_state.specs.Feed.{feedMemory, feedInto};
 
 // Takes bytes of `s` up to its end, to `limit` bytes, or to just after the first string, and leaves the state, how many
@@ -15,7 +15,7 @@ pub extern "C" fn radio_clock_feed(
 ) -> u8
     ensures { λ r. ⌜
         called r (feedMemory (now (state .exit)) (now (taken .exit)) (now (event .exit)))
-        ≡ left
+        ≡ calledMemory
         (feedInto (feedMemory (now (state .entry)) (now (taken .entry)) (now (event .entry))) (now (s .entry)) limit)
         ⌝ }
 {

@@ -3,11 +3,11 @@ use calendar::unix_time::UnixTime;
 use layout::ReadAnswer;
 ghost use mathlib.Core.Path.{_≡_};
 ghost use Rattle.calendar.specs.UnixTime.{unixTimeAnswer};
-ghost use Rattle.clock_time.specs.Called.{called, answered};
+ghost use Rattle.clock_time.specs.Called.{called, calledAnswer};
 ghost use Rattle.radio_clock_readings.specs.Strings.{unixTimeOf};
 
 fn put_instant(answer: UnixTime, time: &mut i64) -> u8
-    ensures { λ r. ⌜ called r (now (time .exit)) ≡ answered (now (time .entry)) (unixTimeAnswer answer) ⌝ }
+    ensures { λ r. ⌜ called r (now (time .exit)) ≡ calledAnswer (now (time .entry)) (unixTimeAnswer answer) ⌝ }
 {
     match answer {
         UnixTime::At(z) => {
@@ -22,7 +22,9 @@ fn put_instant(answer: UnixTime, time: &mut i64) -> u8
 // reading.
 #[no_mangle]
 pub extern "C" fn radio_clock_unix_time(fields: &[i32], time: &mut i64) -> u8
-    ensures { λ r. ⌜ called r (now (time .exit)) ≡ answered (now (time .entry)) (unixTimeOf (now (fields .entry))) ⌝ }
+    ensures { λ r. ⌜
+        called r (now (time .exit)) ≡ calledAnswer (now (time .entry)) (unixTimeOf (now (fields .entry)))
+        ⌝ }
 {
     match clock_fields::first_time_of(fields) {
         ReadAnswer::Read(t) => put_instant(calendar::unix_time::unix_time(t), time),

@@ -1,6 +1,6 @@
 // A DCF77 minute: reading and writing a run of marks.
 ghost use mathlib.Core.Path.{_≡_};
-ghost use Rattle.clock_time.specs.Called.{called, left, counted};
+ghost use Rattle.clock_time.specs.Called.{called, calledMemory, calledBoth};
 ghost use Rattle.fields_writer.specs.Writers.{writeMinuteFrom};
 ghost use Rattle.radio_clock_readings.specs.Minutes.{readMinuteInto};
 
@@ -9,7 +9,7 @@ ghost use Rattle.radio_clock_readings.specs.Minutes.{readMinuteInto};
 #[no_mangle]
 pub extern "C" fn radio_clock_read_minute(marks: &[u8], fields: &mut [i32]) -> u8
     ensures { λ r. ⌜
-        called r (now (fields .exit)) ≡ left (readMinuteInto (now (marks .entry)) (now (fields .entry)))
+        called r (now (fields .exit)) ≡ calledMemory (readMinuteInto (now (marks .entry)) (now (fields .entry)))
         ⌝ }
 {
     clock_numbers::put_minute(dcf77::read_minute(marks), fields)
@@ -25,7 +25,7 @@ pub extern "C" fn radio_clock_write_minute(
 ) -> u8
     ensures { λ r. ⌜
         called r (now (out .exit), now (written .exit))
-        ≡ counted (now (written .entry)) (writeMinuteFrom (now (fields .entry)) (now (out .entry)))
+        ≡ calledBoth (now (written .entry)) (writeMinuteFrom (now (fields .entry)) (now (out .entry)))
         ⌝ }
 {
     clock_time::put_written(fields_writer::write_marks(fields, out), written)

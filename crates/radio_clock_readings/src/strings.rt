@@ -2,7 +2,7 @@
 use time_string::Kind;
 use time_string::KindAnswer;
 ghost use mathlib.Core.Path.{_≡_};
-ghost use Rattle.clock_time.specs.Called.{called, answered, left, counted};
+ghost use Rattle.clock_time.specs.Called.{called, calledAnswer, calledMemory, calledBoth};
 ghost use Rattle.radio_clock_readings.specs.Strings.{kindNumber, kindNumberOf, readInto};
 ghost use Rattle.fields_writer.specs.Writers.{writeFrom};
 
@@ -20,7 +20,7 @@ fn kind_number(k: Kind) -> u8
 // EventSays the kind of a string: its number is left behind `kind`, or 1 is returned.
 #[no_mangle]
 pub extern "C" fn radio_clock_kind(s: &[u8], kind: &mut u8) -> u8
-    ensures { λ r. ⌜ called r (now (kind .exit)) ≡ answered (now (kind .entry)) (kindNumberOf (now (s .entry))) ⌝ }
+    ensures { λ r. ⌜ called r (now (kind .exit)) ≡ calledAnswer (now (kind .entry)) (kindNumberOf (now (s .entry))) ⌝ }
 {
     match time_string::kind_of(s) {
         KindAnswer::Kind(k) => {
@@ -35,7 +35,9 @@ pub extern "C" fn radio_clock_kind(s: &[u8], kind: &mut u8) -> u8
 // names none, as the kind's reader does, then with LentMemory (20) if there is no room.
 #[no_mangle]
 pub extern "C" fn radio_clock_read(kind: u8, s: &[u8], fields: &mut [i32]) -> u8
-    ensures { λ r. ⌜ called r (now (fields .exit)) ≡ left (readInto kind (now (s .entry)) (now (fields .entry))) ⌝ }
+    ensures { λ r. ⌜
+        called r (now (fields .exit)) ≡ calledMemory (readInto kind (now (s .entry)) (now (fields .entry)))
+        ⌝ }
 {
     if kind == 0 {
         return clock_numbers::put_time(meinberg_standard::read_standard(s), fields);
@@ -64,7 +66,7 @@ pub extern "C" fn radio_clock_write(
 ) -> u8
     ensures { λ r. ⌜
         called r (now (out .exit), now (written .exit))
-        ≡ counted (now (written .entry)) (writeFrom kind (now (fields .entry)) (now (out .entry)))
+        ≡ calledBoth (now (written .entry)) (writeFrom kind (now (fields .entry)) (now (out .entry)))
         ⌝ }
 {
     clock_time::put_written(fields_writer::write_string(kind, fields, out), written)

@@ -5,14 +5,14 @@ use recording::FillAnswer;
 use recording::OutcomeAnswer;
 ghost use mathlib.Core.Path.{_≡_};
 ghost use Rattle.recording.specs.Recording.{outcomeAt, fillOutcomes, recorded, correctMark};
-ghost use Rattle.clock_time.specs.Called.{called, answered, left, counted};
+ghost use Rattle.clock_time.specs.Called.{called, calledAnswer, calledMemory, calledBoth};
 
 // Leaves the number that the rule gives a place behind `number`. Refuses with LentMemory (20) if there are more than
 // 100,000 marks, then with Place (21) if there is no such place.
 #[no_mangle]
 pub extern "C" fn radio_clock_outcome_at(marks: &[u8], place: usize, number: &mut u32) -> u8
     ensures { λ r. ⌜
-        called r (now (number .exit)) ≡ answered (now (number .entry)) (outcomeAt (now (marks .entry)) place)
+        called r (now (number .exit)) ≡ calledAnswer (now (number .entry)) (outcomeAt (now (marks .entry)) place)
         ⌝ }
 {
     match recording::outcome_at(marks, place) {
@@ -29,7 +29,7 @@ pub extern "C" fn radio_clock_outcome_at(marks: &[u8], place: usize, number: &mu
 #[no_mangle]
 pub extern "C" fn radio_clock_fill_outcomes(marks: &[u8], outcomes: &mut [u32]) -> u8
     ensures { λ r. ⌜
-        called r (now (outcomes .exit)) ≡ left (fillOutcomes (now (marks .entry)) (now (outcomes .entry)))
+        called r (now (outcomes .exit)) ≡ calledMemory (fillOutcomes (now (marks .entry)) (now (outcomes .entry)))
         ⌝ }
 {
     match recording::fill_outcomes(marks, outcomes) {
@@ -51,7 +51,7 @@ pub extern "C" fn radio_clock_correct_mark(
 ) -> u8
     ensures { λ r. ⌜
         called r (recorded (now (marks .exit)) (now (outcomes .exit)), now (changed .exit))
-        ≡ counted (now (changed .entry)) (correctMark (now (marks .entry)) (now (outcomes .entry)) place mark)
+        ≡ calledBoth (now (changed .entry)) (correctMark (now (marks .entry)) (now (outcomes .entry)) place mark)
         ⌝ }
 {
     match recording::correct_mark(marks, outcomes, place, mark) {

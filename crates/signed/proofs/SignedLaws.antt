@@ -1,4 +1,4 @@
--- Laws of signed numbers from a sign and a size, at any width.
+-- Laws of signed numbers from a sign and a magnitude, at any width.
 use Prim.Native.Nat.{ℕ, zero, suc, _^_, _≤_, _<_}
 use native.Mathlib.Nat.{zero-add}
 use native.Mathlib.Omega.{arith}
@@ -16,16 +16,16 @@ use borrow.Author.Tests.{eqb-true, eqb-false, leb-true, le-ltb, ltb-true, not-tr
 use Rattle.clock_time.proofs.Tests.{both}
 use Rattle.signed.specs.Signed.{signed, signHolds, signByte}
 
-negated-size : (n : ℕ) → mag (negℤ (pos n)) ≤ n
-negated-size zero = omega arith
-negated-size (suc n) = omega arith
+negated-magnitude : (n : ℕ) → mag (negℤ (pos n)) ≤ n
+negated-magnitude zero = omega arith
+negated-magnitude (suc n) = omega arith
 
 pub signed-fits : (w : Width) (t : Bool) (n : ℕ) → n < 2 ^ hbits w → SFits w (signed t n)
 unfolding signed
-signed-fits w true n h = record { sfits = omega (arith, negated-size n) }
+signed-fits w true n h = record { sfits = omega (arith, negated-magnitude n) }
 signed-fits w false n h = record { sfits = h }
 
--- zero less a size, as the machine holds both
+-- zero less a magnitude, as the machine holds both
 pub zero-less : (w : Width) (n : ℕ) → n < 2 ^ hbits w → toZ w 0 -ℤ toZ w n ≡ signed true n
 unfolding signed
 zero-less w n h = rw (toZ-pos w (pow-pos (hbits w)), toZ-pos w h) (+ℤ-idl (negℤ (pos n)))
@@ -33,14 +33,14 @@ zero-less w n h = rw (toZ-pos w (pow-pos (hbits w)), toZ-pos w h) (+ℤ-idl (neg
 pub less-held : (w : Width) (n : ℕ) → n < 2 ^ hbits w → toZ w (ofZ w (toZ w 0 -ℤ toZ w n)) ≡ signed true n
 less-held w n h = rw (zero-less w n h) (toZ-ofZ (signed-fits w true n h))
 
--- ---- a size with its sign
--- the rules of a sign and a size, one by one
-pub record SignRules (above below limit byte size : ℕ) : Type 0 where
+-- ---- a magnitude with its sign
+-- the rules of a sign and a magnitude, one by one
+pub record SignRules (above below limit byte magnitude : ℕ) : Type 0 where
   pub sign : (byte ≡ above) ⊎ (byte ≡ below)
-  pub most : size ≤ limit
-  pub zero : size ≡ 0 → byte ≡ below → ⊥
+  pub most : magnitude ≤ limit
+  pub zero : magnitude ≡ 0 → byte ≡ below → ⊥
 
-module _ (above below limit byte size : ℕ) where
+module _ (above below limit byte magnitude : ℕ) where
   one-of : (eqb byte above || eqb byte below) ≡ true → (byte ≡ above) ⊎ (byte ≡ below)
   one-of h = go (eqb byte above) refl h
     where
@@ -48,35 +48,35 @@ module _ (above below limit byte size : ℕ) where
       go true e h = inl (eqb-true byte above e)
       go false e h = inr (eqb-true byte below h)
 
-  zero-above : SignRules above below limit byte size → (eqb size 0 && eqb byte below) ≡ false
-  zero-above r = go (eqb size 0) (eqb byte below) refl refl
+  zero-above : SignRules above below limit byte magnitude → (eqb magnitude 0 && eqb byte below) ≡ false
+  zero-above r = go (eqb magnitude 0) (eqb byte below) refl refl
     where
-      go : (t u : Bool) → eqb size 0 ≡ t → eqb byte below ≡ u → (t && u) ≡ false
-      go true true e f = absurd (r .zero (eqb-true size 0 e) (eqb-true byte below f))
+      go : (t u : Bool) → eqb magnitude 0 ≡ t → eqb byte below ≡ u → (t && u) ≡ false
+      go true true e f = absurd (r .zero (eqb-true magnitude 0 e) (eqb-true byte below f))
       go true false e f = refl
       go false u e f = refl
 
   -- the test passes exactly if the rules hold
-  pub sign-exactly : (signHolds above below limit byte size ≡ true) ↔ SignRules above below limit byte size
+  pub sign-exactly : (signHolds above below limit byte magnitude ≡ true) ↔ SignRules above below limit byte magnitude
   unfolding signHolds
   sign-exactly = (
     λ h.
         let sign = eqb byte above || eqb byte below in
-        let w = both (sign && leb size limit) (not (eqb size 0 && eqb byte below)) h in
-        let v = both sign (leb size limit) (w .0) in
-        let none = not-true (eqb size 0 && eqb byte below) (w .1) in
+        let w = both (sign && leb magnitude limit) (not (eqb magnitude 0 && eqb byte below)) h in
+        let v = both sign (leb magnitude limit) (w .0) in
+        let none = not-true (eqb magnitude 0 && eqb byte below) (w .1) in
         record {
           sign = one-of (v .0);
-          most = leb-true size limit (v .1);
-          zero = λ e b. true≢false (rw (eq-eqb size 0 e, eq-eqb byte below b) at none);
+          most = leb-true magnitude limit (v .1);
+          zero = λ e b. true≢false (rw (eq-eqb magnitude 0 e, eq-eqb byte below b) at none);
         },
     λ r.
         let one : (eqb byte above || eqb byte below) ≡ true =
         ⊎-elim (λ e. rw (eq-eqb byte above e)) (λ e. rw (eq-eqb byte below e) (or-true (eqb byte above))) (r .sign) in
-        simp (one, le-leb size limit (r .most), zero-above r),
+        simp (one, le-leb magnitude limit (r .most), zero-above r),
   )
 
-  pub sign-limit : signHolds above below limit byte size ≡ true → size ≤ limit
+  pub sign-limit : signHolds above below limit byte magnitude ≡ true → magnitude ≤ limit
   sign-limit h = sign-exactly .0 h .most
 
 signed-sign : (t : Bool) (n : ℕ) → (eqb n 0 && t) ≡ false → nonNeg (signed t n) ≡ not t
@@ -85,13 +85,13 @@ signed-sign true zero h = absurd (true≢false h)
 signed-sign true (suc n) h = refl
 signed-sign false n h = refl
 
-pub signed-size : (t : Bool) (n : ℕ) → natAbs (signed t n) ≡ n
+pub signed-magnitude : (t : Bool) (n : ℕ) → natAbs (signed t n) ≡ n
 unfolding signed
-signed-size true zero = refl
-signed-size true (suc n) = refl
-signed-size false n = refl
+signed-magnitude true zero = refl
+signed-magnitude true (suc n) = refl
+signed-magnitude false n = refl
 
--- ---- sizes and signs
+-- ---- magnitudes and signs
 pub below-zero : (z : ℤ) → ltZ z (pos 0) ≡ not (nonNeg z)
 below-zero (pos n) = le-ltb n 0 (omega arith)
 below-zero (negsuc n) = refl
@@ -109,11 +109,11 @@ module _ {z : ℤ} (f : SFits w32 z) where
   pub widened : toZ w64 (ofZ w64 (toZ w32 (ofZ w32 z))) ≡ z
   widened = rw (toZ-ofZ f) (toZ-ofZ (sfits-widen tt f))
 
-  pub size-small : natAbs z ≤ 2 ^ 31
-  size-small = natAbs-le z (f .sfits)
+  pub magnitude-small : natAbs z ≤ 2 ^ 31
+  magnitude-small = natAbs-le z (f .sfits)
 
   pub turned-fits : ltZ z (pos 0) ≡ true → SFits w64 (pos 0 -ℤ z)
-  turned-fits h = rw (turned z h) (record { sfits = omega (arith, size-small) })
+  turned-fits h = rw (turned z h) (record { sfits = omega (arith, magnitude-small) })
 
   pub turned-held : ltZ z (pos 0) ≡ true
       → toZ w64 (ofZ w64 (pos 0 -ℤ toZ w64 (ofZ w64 (toZ w32 (ofZ w32 z))))) ≡ pos (natAbs z)
@@ -123,18 +123,18 @@ module _ {z : ℤ} (f : SFits w32 z) where
   kept-held h = widened ∙ kept z h
 
 -- ---- the sign of what was read is the sign that was read
-pub sign-back : (above below limit byte size : ℕ) → signHolds above below limit byte size ≡ true
-    → signByte above below (signed (eqb byte below) size) ≡ byte
-sign-back above below limit byte size h =
-    let r = sign-exactly above below limit byte size .0 h in
-    rw (signed-sign (eqb byte below) size (zero-above above below limit byte size r))
+pub sign-byte-signed : (above below limit byte magnitude : ℕ) → signHolds above below limit byte magnitude ≡ true
+    → signByte above below (signed (eqb byte below) magnitude) ≡ byte
+sign-byte-signed above below limit byte magnitude h =
+    let r = sign-exactly above below limit byte magnitude .0 h in
+    rw (signed-sign (eqb byte below) magnitude (zero-above above below limit byte magnitude r))
     (go (eqb byte below) refl (r .sign))
   where
     go : (t : Bool) → eqb byte below ≡ t → (byte ≡ above) ⊎ (byte ≡ below) → cond (not t) above below ≡ byte
     go true e s = sym (eqb-true byte below e)
     go false e s = ⊎-elim (λ a. sym a) (λ b. absurd (eqb-false byte below e b)) s
 
--- ---- a number's own sign and size are read as it
+-- ---- a number's own sign and magnitude are read as it
 module _ (above below : ℕ) (differ : eqb above below ≡ false) where
   pub sign-read : (z : ℤ) → signed (eqb (signByte above below z) below) (natAbs z) ≡ z
   unfolding signed

@@ -1,28 +1,30 @@
-// Signed numbers: from a sign and a size, and back.
+// Signed numbers: from a sign and a magnitude, and back.
 ghost use mathlib.Core.Path.{_≡_};
 ghost use lib.IntN.{natAbs};
 ghost use Rattle.signed.specs.Signed.{signed, signHolds, signByte};
 
-// The number of a size, below zero where `negative`.
-pub fn with_sign(negative: bool, size: u32) -> i64
-    ensures { λ r. ⌜ r ≡ signed negative size ⌝ }
+// The number of a magnitude, below zero where `negative`.
+pub fn with_sign(negative: bool, magnitude: u32) -> i64
+    ensures { λ r. ⌜ r ≡ signed negative magnitude ⌝ }
 {
-    let z = size as i64;
+    let z = magnitude as i64;
     if negative {
         return 0 - z;
     }
     z
 }
 
-// Whether a byte is one of two signs and a size is within its limit, and no zero is below zero.
-pub fn sign_holds(above: u8, below: u8, limit: u32, byte: u8, size: u32) -> bool
-    ensures { λ r. ⌜ r ≡ signHolds above below limit byte size ⌝ }
+// Whether a byte is one of two signs and a magnitude is within its limit, and no zero is below zero.
+pub fn sign_holds(above: u8, below: u8, limit: u32, byte: u8, magnitude: u32) -> bool
+    ensures { λ r. ⌜ r ≡ signHolds above below limit byte magnitude ⌝ }
 {
-    ((byte == above) | (byte == below)) & (size <= limit) & !((size == 0) & (byte == below))
+    ((byte == above) | (byte == below))
+        & (magnitude <= limit)
+        & !((magnitude == 0) & (byte == below))
 }
 
-// The size of a number, whatever its sign.
-pub fn size(z: i32) -> u32
+// The magnitude of a number, whatever its sign.
+pub fn magnitude(z: i32) -> u32
     ensures { λ r. ⌜ r ≡ natAbs z ⌝ }
 {
     let w = z as i64;

@@ -44,9 +44,9 @@ readingTime (time t) = t
 readingTime (timeAndPosition g) = g .time
 
 -- the answer of a reader whose strings have no position
-abbrev pub plain : Answer ClockTime → Answer Reading
-plain (accepted t) = accepted (time t)
-plain (refused k) = refused k
+abbrev pub timeOnly : Answer ClockTime → Answer Reading
+timeOnly (accepted t) = accepted (time t)
+timeOnly (refused k) = refused k
 
 -- the answer of a reader whose strings have one
 abbrev pub located : Answer GpsTime → Answer Reading
@@ -55,10 +55,10 @@ located (refused k) = refused k
 
 -- "The caller names the kind [..]" (01, Meinberg and ELV strings)
 unfoldable pub readAs : Kind → List ℕ → Answer Reading
-readAs Standard s = plain (readStandard s)
-readAs Pzf s = plain (readPzf s)
+readAs Standard s = timeOnly (readStandard s)
+readAs Pzf s = timeOnly (readPzf s)
 readAs Gps s = located (readGps s)
-readAs Elv s = plain (readElv s)
+readAs Elv s = timeOnly (readElv s)
 
 -- the function's answer: a reading, or a refusal with the error's number
 abbrev pub timeAnswer : TimeAnswer → Answer Reading

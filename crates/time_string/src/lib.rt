@@ -5,7 +5,7 @@ use layout::ReadAnswer;
 use meinberg_gps::GpsAnswer;
 use meinberg_gps::GpsTime;
 ghost use mathlib.Core.Path.{_≡_};
-ghost use Rattle.time_string.specs.Kind.{kindOf, kindAnswer, plain, located, readAs, timeAnswer};
+ghost use Rattle.time_string.specs.Kind.{kindOf, kindAnswer, timeOnly, located, readAs, timeAnswer};
 ghost use Rattle.layout.specs.Text.{readAnswer};
 ghost use Rattle.meinberg_gps.specs.Gps.{gpsAnswer};
 
@@ -51,7 +51,7 @@ pub fn kind_of(s: &[u8]) -> KindAnswer
 }
 
 fn without_position(a: ReadAnswer) -> TimeAnswer
-    ensures { λ r. ⌜ timeAnswer r ≡ plain (readAnswer a) ⌝ }
+    ensures { λ r. ⌜ timeAnswer r ≡ timeOnly (readAnswer a) ⌝ }
 {
     match a {
         ReadAnswer::Read(t) => TimeAnswer::Read(t),

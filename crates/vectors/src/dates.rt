@@ -40,7 +40,7 @@ fn error_at(i: u8) -> Error {
 fn number_of(answer: DateAnswer) -> u64 {
     match answer {
         DateAnswer::Number(value) => value as u64,
-        DateAnswer::Refused(e) => numbers::answered(clock_time::error_number(e), 0),
+        DateAnswer::Refused(e) => numbers::answer_number(clock_time::error_number(e), 0),
     }
 }
 

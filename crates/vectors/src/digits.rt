@@ -17,7 +17,7 @@ pub fn read(s: &[u8]) -> u64 {
 fn count_written(answer: WriteAnswer) -> u64 {
     match answer {
         WriteAnswer::Written(count) => count as u64,
-        WriteAnswer::Refused(e) => numbers::answered(clock_time::error_number(e), 0),
+        WriteAnswer::Refused(e) => numbers::answer_number(clock_time::error_number(e), 0),
     }
 }
 

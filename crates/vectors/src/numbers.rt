@@ -9,7 +9,7 @@ pub type Numbers = [u64; 24];
 pub const REFUSED: u64 = 10000000000000000000;
 
 // What a call left, or its refusal, which is not 0.
-pub fn answered(refusal: u8, value: u64) -> u64 {
+pub fn answer_number(refusal: u8, value: u64) -> u64 {
     if refusal == 0 {
         return value;
     }

@@ -79,7 +79,7 @@ fn correct_first(
         mark,
         &mut changed,
     );
-    numbers::answered(refusal, changed as u64)
+    numbers::answer_number(refusal, changed as u64)
 }
 
 fn correct(v: &Numbers, m: &mut Recording, o: &mut Outcomes) -> u64 {
@@ -118,7 +118,7 @@ fn outcome_in(v: &Numbers, m: &Recording) -> u64 {
     let mut number = 0;
     let marks = text::first(m, v[1] as usize);
     let refusal = radio_clock_outcome_at(marks, v[2] as usize, &mut number);
-    numbers::answered(refusal, number as u64)
+    numbers::answer_number(refusal, number as u64)
 }
 
 // The number that the rule gives a place.
@@ -139,7 +139,7 @@ pub fn answer(word: u64, v: &Numbers, s: &[u8], a: &mut Numbers) {
     }
     let refusal = fill(v, &m, &mut o);
     if word == commands::FILL {
-        numbers::add(a, numbers::answered(refusal, v[2]));
+        numbers::add(a, numbers::answer_number(refusal, v[2]));
         numbers::add(a, sum(&o, v[2] as usize));
         return;
     }

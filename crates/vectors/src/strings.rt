@@ -58,7 +58,7 @@ pub fn add_read(kind: u8, s: &[u8], a: &mut Numbers) {
     let mut space = [0i32; 17];
     let refusal = read(kind, s, &mut space);
     if refusal != 0 {
-        numbers::add(a, numbers::answered(refusal, 0));
+        numbers::add(a, numbers::answer_number(refusal, 0));
         return;
     }
     let fields = first(&space, count_of(kind));
@@ -70,7 +70,7 @@ pub fn add_read(kind: u8, s: &[u8], a: &mut Numbers) {
 pub fn add_kind(s: &[u8], a: &mut Numbers) {
     let mut kind = 0;
     let refusal = radio_clock_kind(s, &mut kind);
-    numbers::add(a, numbers::answered(refusal, kind as u64));
+    numbers::add(a, numbers::answer_number(refusal, kind as u64));
     if refusal == 0 {
         add_read(kind, s, a);
     }
@@ -83,7 +83,7 @@ fn write_in(kind: u8, fields: &[i32], space: &mut [u8], room: usize) -> u64 {
     }
     let mut count = 0;
     let refusal = write_kind(kind, fields, &mut space[0..room], &mut count);
-    numbers::answered(refusal, count as u64)
+    numbers::answer_number(refusal, count as u64)
 }
 
 // Writes all numbers but the kind, the first, and the room, the last.
@@ -100,5 +100,5 @@ pub fn unix_time(v: &Numbers) -> u64 {
     numbers::put_fields(v, 1, &mut fields);
     let mut time = 0;
     let refusal = radio_clock_unix_time(&fields, &mut time);
-    numbers::answered(refusal, numbers::bits(time))
+    numbers::answer_number(refusal, numbers::bits(time))
 }

@@ -7,7 +7,7 @@ use lib.IntN.{ℤ}
 use lib.ListN.{length, take}
 use lib.Seq.{length-take-le}
 use mir.Facts.{toZ-ofZ}
-use Rattle.clock_time.specs.Called.{left}
+use Rattle.clock_time.specs.Called.{calledMemory}
 use Rattle.clock_numbers.specs.Numbers.{timeNumbers, putNumbers}
 use Rattle.clock_numbers.proofs.put_with.Statement.{statement}
 use Rattle.clock_numbers.proofs.put_with.Tie as tie
@@ -26,7 +26,7 @@ returns c =
     let x = n .before .args in
     let fits = n .before .fits in
     c .before .put-numbers .ensures
-    ∙ ap (λ (z : List ℤ). left (putNumbers (take (x .count) z) (now (x .fields))))
+    ∙ ap (λ (z : List ℤ). calledMemory (putNumbers (take (x .count) z) (now (x .fields))))
     (n .numbers-with .ensures ∙ simp (toZ-ofZ (fits .a), toZ-ofZ (fits .b), toZ-ofZ (fits .c)))
 
 pub put-with-spec : {M : Type 1} → statement M

@@ -7,7 +7,7 @@ use Rattle.clock_time.specs.Errors.{refused}
 use Rattle.dcf77.specs.Minute.{minuteChecks, readMinute}
 use Rattle.dcf77.specs.Numbers.{Sure, Numbers, timeChecks}
 use Rattle.dcf77.proofs.CheckLaws.{length-between, number-known, fieldChecks}
-use Rattle.dcf77.proofs.CheckLaws.{Left, run-left, run-sure, stops, passes}
+use Rattle.dcf77.proofs.CheckLaws.{Remaining, run-remaining, run-sure, stops, passes}
 use mathlib.Core.List.{[]}
 use Rattle.dcf77.proofs.read_minute.Statement.{statement}
 use Rattle.dcf77.proofs.read_minute.Tie as tie
@@ -35,20 +35,21 @@ numbers : (c : tie.After-read-date)
 numbers c = search (sure (c .before .before .before))
 
 -- ---- what is left to check
-fields-left : (c : tie.After-fields)
+fields-remaining : (c : tie.After-fields)
     → let m = now (c .before .before .before .before .before .before .before .before .before .before .args .m) in
-    Left m (fieldChecks m (c .fields .result)) (c .fields .result)
-fields-left c =
+    Remaining m (fieldChecks m (c .fields .result)) (c .fields .result)
+fields-remaining c =
     let k = c .before .before in
     rw (c .fields .ensures)
-    (passes _ _ (run-left (numbers (k .before)) (search)) (k .marks-error .ensures) refl (c .before .if3 .left))
+    (passes _ _ (run-remaining (numbers (k .before)) (search)) (k .marks-error .ensures) refl (c .before .if3 .left))
 
-time-left : (c : tie.Else4)
+time-remaining : (c : tie.Else4)
     → let f = c .before .before .before in
     let m = now (f .before .before .before .before .before .before .before .before .before .before .args .m) in
     let t = f .fields .result .time in
-    Left m (timeChecks m (t .hour) (t .minute)) (f .fields .result)
-time-left c = passes _ _ (fields-left (c .before .before .before)) (c .before .date-error .ensures) refl (c .if4 .left)
+    Remaining m (timeChecks m (t .hour) (t .minute)) (f .fields .result)
+time-remaining c =
+    passes _ _ (fields-remaining (c .before .before .before)) (c .before .date-error .ensures) refl (c .if4 .left)
 
 -- ---- errors
 error-of-requires : tie.Need-error-of-requires
@@ -58,7 +59,8 @@ returns-3 : tie.Need-returns-3
 returns-3 c =
     let k = c .before .before in
     ap refused (c .error-of .ensures)
-    ∙ sym (stops _ _ (run-left (numbers (k .before)) (search)) (k .marks-error .ensures) refl (c .before .if3 .taken))
+    ∙ sym (stops _ _ (run-remaining (numbers (k .before)) (search)) (k .marks-error .ensures) refl
+    (c .before .if3 .taken))
 
 error-of-requires-2 : tie.Need-error-of-requires-2
 error-of-requires-2 c κs = number-known _ _ (c .before .date-error .ensures) (c .if4 .taken) refl
@@ -67,7 +69,7 @@ returns-4 : tie.Need-returns-4
 returns-4 c =
     let e = c .before .before in
     ap refused (c .error-of2 .ensures)
-    ∙ sym (stops _ _ (fields-left (e .before .before)) (e .date-error .ensures) refl (c .before .if4 .taken))
+    ∙ sym (stops _ _ (fields-remaining (e .before .before)) (e .date-error .ensures) refl (c .before .if4 .taken))
 
 error-of-requires-3 : tie.Need-error-of-requires-3
 error-of-requires-3 c κs = number-known _ _ (c .before .time-error .ensures) (c .if5 .taken) refl
@@ -76,12 +78,12 @@ returns-5 : tie.Need-returns-5
 returns-5 c =
     let e = c .before .before in
     ap refused (c .error-of3 .ensures)
-    ∙ sym (stops _ [] (time-left (e .before)) (e .time-error .ensures) refl (c .before .if5 .taken))
+    ∙ sym (stops _ [] (time-remaining (e .before)) (e .time-error .ensures) refl (c .before .if5 .taken))
 
 returns-6 : tie.Need-returns-6
 returns-6 c =
     let e = c .before in
-    sym (passes _ [] (time-left (e .before)) (e .time-error .ensures) refl (c .if5 .left) .says)
+    sym (passes _ [] (time-remaining (e .before)) (e .time-error .ensures) refl (c .if5 .left) .says)
 
 pub read-minute-spec : {M : Type 1} → statement M
 read-minute-spec =

@@ -2,7 +2,7 @@ use borrow.Author.Needs.{needs}
 use native.Mathlib.Omega.{arith}
 use denote.Ref.{now}
 use Rattle.fields_writer.specs.Writers.{kindNamed, writeFrom}
-use Rattle.fields_writer.proofs.KindLaws.{write-unknown, write-plain}
+use Rattle.fields_writer.proofs.KindLaws.{write-unknown, write-time-from}
 use Rattle.fields_writer.proofs.write_string.Statement.{statement}
 use Rattle.fields_writer.proofs.write_string.Tie as tie
 
@@ -22,8 +22,8 @@ returns-3 c =
     let w = c .before .before in
     let i = w .before .before in
     let x = i .before .before .before .args in
-    rw (← (write-plain (x .kind) (now (x .fields)) (now (x .out)) (omega arith) (i .if2 .left)))
-    (w .write-plain .ensures)
+    rw (← (write-time-from (x .kind) (now (x .fields)) (now (x .out)) (omega arith) (i .if2 .left)))
+    (w .write-time-from .ensures)
 
 pub write-string-spec : {M : Type 1} → statement M
 write-string-spec =

@@ -10,13 +10,13 @@ use Rattle.gps_position.proofs.height.Tie as tie
 four-requires : tie.Need-four-requires
 four-requires c κs =
     let x = c .before .before .before .before .before in
-    position-digits (now (x .args .s)) (x .pre .1) .height-plain
+    position-digits (now (x .args .s)) (x .pre .1) .height-numeric
 
 cast-result : tie.Need-cast-result
 cast-result c =
     let x = c .before .before .before .before .before .before in
-    let plain = position-digits (now (x .args .s)) (x .pre .1) .height-plain in
-    omega (arith, value-small (slice 60 4 (now (x .args .s))) plain, c .four .ensures)
+    let numeric = position-digits (now (x .args .s)) (x .pre .1) .height-numeric in
+    omega (arith, value-small (slice 60 4 (now (x .args .s))) numeric, c .four .ensures)
 
 pub height-spec : {M : Type 1} → statement M
 height-spec =

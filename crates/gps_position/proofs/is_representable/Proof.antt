@@ -7,7 +7,7 @@ use Rattle.gps_position.proofs.is_representable.Tie as tie
 returns : tie.Need-returns
 unfolding positionRepresentable
 returns c =
-    search (toZ-ofZ, sfits-of, c .before .before .before .size .ensures, c .before .size2 .ensures)
+    search (toZ-ofZ, sfits-of, c .before .before .before .magnitude .ensures, c .before .magnitude2 .ensures)
 
 pub is-representable-spec : {M : Type 1} → statement M
 is-representable-spec = tie.close (tie.spec (λ c κs. search needs) (λ c κs. search needs) returns)

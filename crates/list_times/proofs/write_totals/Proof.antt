@@ -1,6 +1,6 @@
 use borrow.Author.Needs.{needs}
 use Rattle.listing_lines.specs.Totals.{writeTotals}
-use Rattle.list_times.proofs.ProgressLaws.{written-holds}
+use Rattle.list_times.proofs.ProgressLaws.{written-starts}
 use Rattle.list_times.proofs.write_totals.Statement.{statement}
 use Rattle.list_times.proofs.write_totals.Tie as tie
 
@@ -9,7 +9,7 @@ unfolding writeTotals
 write-last-requires c κs =
     let n = c .before .before in
     let w = n .before .before .before in
-    written-holds _ _ _ _ (rw (n .n .given .1) at (w .write-totals .ensures))
+    written-starts _ _ _ _ (rw (n .n .given .1) at (w .write-totals .ensures))
 
 pub write-totals-spec : {M : Type 1} → statement M
 write-totals-spec =

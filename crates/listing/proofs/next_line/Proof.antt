@@ -15,7 +15,7 @@ returns c =
     let f = a .before .before .before .before in
     let x = f .before .before .before .before .args in
     lists-next (x .listing) (x .s .now) (f .feed .result) (f .feed .ensures) _ (a .entry-at .ensures) _
-    (c .before .count .ensures) _ (c .line-of .ensures)
+    (c .before .count .ensures) _ (c .entry-line .ensures)
 
 pub next-line-spec : {M : Type 1} → statement M
 next-line-spec =

@@ -8,7 +8,7 @@ unfolding writeLine
 returns c =
     let w = c .before .before in
     let v = w .before .before .before in
-    rw (← (v .is-reading .ensures), ← (v .before .line-of .ensures)) (w .write-bytes .ensures)
+    rw (← (v .is-reading .ensures), ← (v .before .time-line .ensures)) (w .write-bytes .ensures)
 
 pub write-line-spec : {M : Type 1} → statement M
 write-line-spec =

@@ -7,16 +7,16 @@ use Rattle.listing_lines.proofs.write_totals.Statement.{statement}
 use Rattle.listing_lines.proofs.write_totals.Tie as tie
 
 array-share-prefix-text : tie.Need-array-share-prefix-text
-array-share-prefix-text c = omega (arith, c .before .line-of .ensures .within)
+array-share-prefix-text c = omega (arith, c .before .totals-line .ensures .within)
 
 slice-aggregate-write-bytes : tie.Need-slice-aggregate-write-bytes
-slice-aggregate-write-bytes c = sym (length-take-le _ _ (c .before .before .line-of .ensures .fits))
+slice-aggregate-write-bytes c = sym (length-take-le _ _ (c .before .before .totals-line .ensures .fits))
 
 returns : tie.Need-returns
 unfolding writeTotals
 returns c =
     let w = c .before .before in
-    rw (← (w .before .before .before .before .line-of .ensures .line)) (w .write-bytes .ensures)
+    rw (← (w .before .before .before .before .totals-line .ensures .line)) (w .write-bytes .ensures)
 
 pub write-totals-spec : {M : Type 1} → statement M
 write-totals-spec =

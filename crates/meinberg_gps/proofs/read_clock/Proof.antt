@@ -11,7 +11,7 @@ use Rattle.meinberg_gps.proofs.read_clock.Tie as tie
 answer : (c : tie.After-check-clock) → let x = c .before .before .before .before .args in
     placed (x .position) (readAnswer (c .check-clock .result)) ≡ readClock (now (x .s)) (x .position)
 answer c =
-    read-clock _ _ (c .before .before .clock .ensures) (c .before .mismatch .ensures) (c .check-clock .ensures)
+    read-clock _ _ (c .before .before .fields .ensures) (c .before .mismatch .ensures) (c .check-clock .ensures)
 
 returns : tie.Need-returns
 returns c = rw (c .before .time .given .1) at (answer (c .before .before .before))

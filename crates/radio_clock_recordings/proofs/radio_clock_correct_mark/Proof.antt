@@ -1,6 +1,6 @@
 use borrow.Author.Needs.{needs}
 use mathlib.Core.Path.{ap}
-use Rattle.clock_time.specs.Called.{counted}
+use Rattle.clock_time.specs.Called.{calledBoth}
 use Rattle.radio_clock_recordings.proofs.radio_clock_correct_mark.Statement.{statement}
 use Rattle.radio_clock_recordings.proofs.radio_clock_correct_mark.Tie as tie
 
@@ -8,13 +8,13 @@ returns : tie.Need-returns
 returns c =
     let d = c .before in
     let m = d .before .before .before .before .before .before in
-    ap (counted _) (rw (d .n .given .1) at (m .correct-mark .ensures))
+    ap (calledBoth _) (rw (d .n .given .1) at (m .correct-mark .ensures))
 
 returns-2 : tie.Need-returns-2
 returns-2 c =
     let d = c .before .before in
     let m = d .before .before .before .before .before .before in
-    rw (c .error-number .ensures) (ap (counted _) (rw (d .e .given .1) at (m .correct-mark .ensures)))
+    rw (c .error-number .ensures) (ap (calledBoth _) (rw (d .e .given .1) at (m .correct-mark .ensures)))
 
 pub radio-clock-correct-mark-spec : {M : Type 1} → statement M
 radio-clock-correct-mark-spec =

@@ -11,20 +11,20 @@ use Rattle.signed.proofs.with_sign.Tie as tie
 
 sub-result : tie.Need-sub-result
 sub-result c =
-    let n = c .before .args .size in
+    let n = c .before .args .magnitude in
     let h : n < 2 ^ 63 = omega arith in
     rw (← (zero-less w64 n h)) at (signed-fits w64 true n h)
 
 returns : tie.Need-returns
 returns c =
-    let n = c .before .args .size in
+    let n = c .before .args .magnitude in
     let h : n < 2 ^ 63 = omega arith in
     rw (c .if1 .taken) (less-held w64 n h)
 
 returns-2 : tie.Need-returns-2
 unfolding signed
 returns-2 c =
-    let n = c .before .args .size in
+    let n = c .before .args .magnitude in
     let h : n < 2 ^ 63 = omega arith in
     simp (toZ-pos w64 h, c .if1 .left)
 

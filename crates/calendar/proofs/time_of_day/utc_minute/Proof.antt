@@ -8,7 +8,7 @@ use mir.Syntax.{w16, w32}
 use mir.Val.{toZ, ofZ}
 use mir.Facts.{toZ-ofZ, toZ-pos, sfits-widen}
 use Rattle.calendar.specs.TimeOfDay.{utcMinute}
-use Rattle.calendar.proofs.SignedLaws.{widened, difference-size, shifted, Shifted}
+use Rattle.calendar.proofs.SignedLaws.{widened, difference-magnitude, shifted, Shifted}
 use Rattle.calendar.proofs.time_of_day.utc_minute.Statement.{statement}
 use Rattle.calendar.proofs.time_of_day.utc_minute.Tie as tie
 
@@ -21,7 +21,7 @@ sub-shifted c =
     let h : local < 2 ^ 31 = omega arith in
     let f = c .fits .offset in
     rw (toZ-pos w32 h, widened w32 tt f)
-    (record { sfits = difference-size local (c .args .offset) (2 ^ 31) (omega (arith, f .sfits)) })
+    (record { sfits = difference-magnitude local (c .args .offset) (2 ^ 31) (omega (arith, f .sfits)) })
 
 held : (c : tie.Start)
     → toZ w32 (ofZ w32 (toZ w32 (60 * c .args .hour + c .args .minute + 33120) -ℤ toZ w32 (ofZ w32 (toZ w16 (ofZ w16

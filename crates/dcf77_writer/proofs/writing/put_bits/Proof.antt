@@ -12,11 +12,11 @@ use Rattle.dcf77_writer.proofs.writing.put_bits.Statement.{statement}
 use Rattle.dcf77_writer.proofs.writing.put_bits.Tie as tie
 
 abbrev Inv-loop : tie.InvT-loop
-Inv-loop n line₀ rest₀ i₀ line rest i =
-    (i ≤ 60) × (length line ≡ 60) × (take i line ++ bits (60 - i) rest ≡ bits 60 n)
+Inv-loop n marks₀ rest₀ i₀ marks rest i =
+    (i ≤ 60) × (length marks ≡ 60) × (take i marks ++ bits (60 - i) rest ≡ bits 60 n)
 
 abbrev μ-loop : tie.MeasureT-loop
-μ-loop n line₀ rest₀ i₀ line rest i = 60 - i
+μ-loop n marks₀ rest₀ i₀ marks rest i = 60 - i
 
 loop-holds : tie.Need-loop-holds Inv-loop μ-loop
 loop-holds c = (omega arith, refl, refl)
@@ -24,7 +24,7 @@ loop-holds c = (omega arith, refl, refl)
 loop-again : tie.Need-loop-again Inv-loop μ-loop
 loop-again c =
     let l = c .before .loop in
-    let more = bits-more (l .line) (l .rest) (l .i) (omega arith) (l .inv .1) in
+    let more = bits-more (l .marks) (l .rest) (l .i) (omega arith) (l .inv .1) in
     (omega arith, simp length-set (l .inv .1), more ∙ l .inv .2)
 
 returns : tie.Need-returns Inv-loop μ-loop
@@ -32,8 +32,8 @@ unfolding bits
 returns c =
     let l = c .before .loop in
     let ended : l .i ≡ 60 = omega arith in
-    let all : take 60 (l .line) ≡ l .line = take-all 60 (l .line) (omega arith) in
-    rw (ended, all, append-nil (l .line)) at (l .inv .2)
+    let all : take 60 (l .marks) ≡ l .marks = take-all 60 (l .marks) (omega arith) in
+    rw (ended, all, append-nil (l .marks)) at (l .inv .2)
 
 pub put-bits-spec : {M : Type 1} → statement M
 put-bits-spec =

@@ -13,9 +13,9 @@ unfolding angleBytes aligned padded ascii digits
 returns c =
     let w = c .before .before in
     let f = w .before .before .fits .angle in
-    let size = rw (toZ-ofZ f) at (w .before .size .ensures) in
+    let magnitude = rw (toZ-ofZ f) at (w .before .magnitude .ensures) in
     let letter = rw (toZ-ofZ f) at (c .sign-byte .ensures) in
-    simp (letter, c .before .decimals .ensures, w .aligned-text .ensures, size)
+    simp (letter, c .before .decimals .ensures, w .aligned-text .ensures, magnitude)
 
 pub angle-text-spec : {M : Type 1} → statement M
 angle-text-spec =

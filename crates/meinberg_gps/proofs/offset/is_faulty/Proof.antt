@@ -13,7 +13,7 @@ returns c =
     let n = c .before .before .before .before in
     simp (
       c .sign-holds .ensures,
-      c .before .size .ensures,
+      c .before .magnitude .ensures,
       n .numbers-at .ensures,
       numbers-two (n .before .before .pre .1) 25 (lit≤ tt) refl refl,
     )

@@ -9,8 +9,8 @@ use Rattle.meinberg_gps.specs.Gps.{offsetText}
 use Rattle.meinberg_gps_writer.proofs.parts.offset_text.Statement.{statement}
 use Rattle.meinberg_gps_writer.proofs.parts.offset_text.Tie as tie
 
-cast-size : tie.Need-cast-size
-cast-size c = rw (toZ-ofZ (c .fits .offset)) (sfits-widen tt (c .fits .offset))
+cast-magnitude : tie.Need-cast-magnitude
+cast-magnitude c = rw (toZ-ofZ (c .fits .offset)) (sfits-widen tt (c .fits .offset))
 
 cast-sign-byte : tie.Need-cast-sign-byte
 cast-sign-byte c =
@@ -23,12 +23,12 @@ returns c =
     let minutes = c .before in
     let hours = minutes .before in
     let f = hours .before .before .fits .offset in
-    let size = rw (widened w32 tt f) at (hours .before .size .ensures) in
+    let magnitude = rw (widened w32 tt f) at (hours .before .magnitude .ensures) in
     let letter = rw (widened w32 tt f) at (c .sign-byte .ensures) in
-    simp (letter, minutes .pair2 .ensures, hours .pair .ensures, size, first-byte, second-byte)
+    simp (letter, minutes .pair2 .ensures, hours .pair .ensures, magnitude, first-byte, second-byte)
 
 pub offset-text-spec : {M : Type 1} → statement M
 offset-text-spec =
     tie.close
-    (tie.spec cast-size (λ c κs. search needs) (λ c κs. search needs) (λ c κs. search needs) cast-sign-byte
+    (tie.spec cast-magnitude (λ c κs. search needs) (λ c κs. search needs) (λ c κs. search needs) cast-sign-byte
     (λ c κs. search needs) (λ c. search needs) (λ c. search needs) (λ c. search needs) (λ c. search needs) returns)

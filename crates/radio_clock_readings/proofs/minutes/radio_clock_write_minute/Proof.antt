@@ -1,12 +1,12 @@
 use borrow.Author.Needs.{needs}
-use Rattle.clock_time.proofs.CalledLaws.{counted-from}
+use Rattle.clock_time.proofs.CalledLaws.{both-from-answer}
 use Rattle.radio_clock_readings.proofs.minutes.radio_clock_write_minute.Statement.{statement}
 use Rattle.radio_clock_readings.proofs.minutes.radio_clock_write_minute.Tie as tie
 
 returns : tie.Need-returns
 returns c =
     let w = c .before .before .before .before in
-    counted-from (w .write-marks .result) _ _ _ _ _ (c .put-written .ensures) (w .write-marks .ensures)
+    both-from-answer (w .write-marks .result) _ _ _ _ _ (c .put-written .ensures) (w .write-marks .ensures)
 
 pub radio-clock-write-minute-spec : {M : Type 1} → statement M
 radio-clock-write-minute-spec =

@@ -5,7 +5,7 @@ use Rattle.clock_numbers.specs.Numbers.{putAnswer}
 use Rattle.fields_writer.specs.Writers.{kindNamed}
 use Rattle.fields_writer.proofs.KindLaws.{kind-unknown}
 use Rattle.radio_clock_readings.specs.Strings.{readInto, readNumbered}
-use Rattle.radio_clock_readings.proofs.StringLaws.{plain-put, located-put}
+use Rattle.radio_clock_readings.proofs.StringLaws.{time-only-put, located-put}
 use Rattle.radio_clock_readings.proofs.strings.radio_clock_read.Statement.{statement}
 use Rattle.radio_clock_readings.proofs.strings.radio_clock_read.Tie as tie
 
@@ -20,11 +20,11 @@ radio-clock-read-spec =
     (tie.spec (λ c κs. search needs) (λ c κs. search needs) (λ c. search needs)
     (λ c.
     let r = c .before .before .before in
-    rw (r .before .if1 .taken, ← (r .read-standard .ensures), ← plain-put) (c .before .put-time .ensures))
+    rw (r .before .if1 .taken, ← (r .read-standard .ensures), ← time-only-put) (c .before .put-time .ensures))
     (λ c κs. search needs) (λ c κs. search needs) (λ c. search needs)
     (λ c.
     let r = c .before .before .before in
-    rw (r .before .if2 .taken, ← (r .read-pzf .ensures), ← plain-put) (c .before .put-time2 .ensures))
+    rw (r .before .if2 .taken, ← (r .read-pzf .ensures), ← time-only-put) (c .before .put-time2 .ensures))
     (λ c κs. search needs) (λ c κs. search needs) (λ c. search needs)
     (λ c.
     let r = c .before .before .before in
@@ -32,5 +32,5 @@ radio-clock-read-spec =
     (λ c κs. search needs) (λ c κs. search needs) (λ c. search needs)
     (λ c.
     let r = c .before .before .before in
-    rw (r .before .if4 .taken, ← (r .read-elv .ensures), ← plain-put) (c .before .put-time3 .ensures))
+    rw (r .before .if4 .taken, ← (r .read-elv .ensures), ← time-only-put) (c .before .put-time3 .ensures))
     returns-5)

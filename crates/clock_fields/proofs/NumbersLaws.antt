@@ -20,17 +20,17 @@ use Rattle.clock_fields.specs.Ranges.{at, isSet, timeFrom, gpsFrom, minu
 use Rattle.clock_fields.proofs.RangeLaws.{fits-at, fits-first}
 
 -- ---- one number
-abs-there : (m : ℕ) (z : ℤ) → within (upTo m) z ≡ true → pos (natAbs z) ≡ z
-abs-there m (pos n) h = refl
-abs-there m (negsuc n) h = absurd (false≢true h)
+pos-abs : (m : ℕ) (z : ℤ) → within (upTo m) z ≡ true → pos (natAbs z) ≡ z
+pos-abs m (pos n) h = refl
+pos-abs m (negsuc n) h = absurd (false≢true h)
 
-flag-there : (z : ℤ) → within (upTo 1) z ≡ true → flagNumber (isSet z) ≡ z
+flag-is-set : (z : ℤ) → within (upTo 1) z ≡ true → flagNumber (isSet z) ≡ z
 unfolding eqℤ
-flag-there (pos zero) h = refl
-flag-there (pos (suc zero)) h = refl
-flag-there (pos (suc (suc n))) h =
+flag-is-set (pos zero) h = refl
+flag-is-set (pos (suc zero)) h = refl
+flag-is-set (pos (suc (suc n))) h =
     let k = leb-true (suc (suc n)) 1 (both (leb 0 (suc (suc n))) (leb (suc (suc n)) 1) h .1) in absurd (omega arith)
-flag-there (negsuc n) h = absurd (false≢true h)
+flag-is-set (negsuc n) h = absurd (false≢true h)
 
 -- ---- the numbers of a list, one after the other
 abbrev listed : ℕ → (ℕ → ℤ) → List ℤ
@@ -45,41 +45,41 @@ listed-all (suc n) (x ∷ z) e = ap (λ (l : List ℤ). x ∷ l) (listed-all n z
 
 -- ---- numbers that fit
 module _ (z : List ℤ) where
-  time-there : fits timeRanges z ≡ true → timeNumbers (timeFrom z) ≡ listed 14 (λ i. at i z)
+  numbers-time-from : fits timeRanges z ≡ true → timeNumbers (timeFrom z) ≡ listed 14 (λ i. at i z)
   unfolding timeRanges timeNumbers timeFrom
-  time-there h =
+  numbers-time-from h =
       simp (
-        abs-there 65535 (at 0 z) (place 0 tt),
-        abs-there 255 (at 1 z) (place 1 tt),
-        abs-there 255 (at 2 z) (place 2 tt),
-        abs-there 255 (at 3 z) (place 3 tt),
-        abs-there 255 (at 4 z) (place 4 tt),
-        abs-there 255 (at 5 z) (place 5 tt),
-        abs-there 255 (at 6 z) (place 6 tt),
-        flag-there (at 8 z) (place 8 tt),
-        flag-there (at 9 z) (place 9 tt),
-        flag-there (at 10 z) (place 10 tt),
-        flag-there (at 11 z) (place 11 tt),
-        flag-there (at 12 z) (place 12 tt),
-        flag-there (at 13 z) (place 13 tt),
+        pos-abs 65535 (at 0 z) (place 0 tt),
+        pos-abs 255 (at 1 z) (place 1 tt),
+        pos-abs 255 (at 2 z) (place 2 tt),
+        pos-abs 255 (at 3 z) (place 3 tt),
+        pos-abs 255 (at 4 z) (place 4 tt),
+        pos-abs 255 (at 5 z) (place 5 tt),
+        pos-abs 255 (at 6 z) (place 6 tt),
+        flag-is-set (at 8 z) (place 8 tt),
+        flag-is-set (at 9 z) (place 9 tt),
+        flag-is-set (at 10 z) (place 10 tt),
+        flag-is-set (at 11 z) (place 11 tt),
+        flag-is-set (at 12 z) (place 12 tt),
+        flag-is-set (at 13 z) (place 13 tt),
       )
     where
       place : (i : ℕ) → T (ltb i 14) → within (getD timeRanges i (upTo 0)) (at i z) ≡ true
       place i t = fits-at timeRanges z h i (lit< t) .1
 
-  gps-there : fits gpsRanges z ≡ true → gpsNumbers (gpsFrom z) ≡ listed 17 (λ i. at i z)
+  numbers-gps-from : fits gpsRanges z ≡ true → gpsNumbers (gpsFrom z) ≡ listed 17 (λ i. at i z)
   unfolding gpsRanges timeRanges gpsNumbers gpsFrom
-  gps-there h =
-      rw (time-there (fits-first timeRanges _ z h))
-      (simp (abs-there 65535 (at 16 z) (fits-at gpsRanges z h 16 (lit< tt) .1)))
+  numbers-gps-from h =
+      rw (numbers-time-from (fits-first timeRanges _ z h))
+      (simp (pos-abs 65535 (at 16 z) (fits-at gpsRanges z h 16 (lit< tt) .1)))
 
-  minute-there : fits minuteRanges z ≡ true → minuteNumbers (minuteFrom z) ≡ listed 16 (λ i. at i z)
+  numbers-minute-from : fits minuteRanges z ≡ true → minuteNumbers (minuteFrom z) ≡ listed 16 (λ i. at i z)
   unfolding minuteRanges timeRanges minuteNumbers minuteFrom
-  minute-there h =
-      rw (time-there (fits-first timeRanges _ z h))
+  numbers-minute-from h =
+      rw (numbers-time-from (fits-first timeRanges _ z h))
       (simp (
-        abs-there 65535 (at 14 z) (fits-at minuteRanges z h 14 (lit< tt) .1),
-        flag-there (at 15 z) (fits-at minuteRanges z h 15 (lit< tt) .1),
+        pos-abs 65535 (at 14 z) (fits-at minuteRanges z h 14 (lit< tt) .1),
+        flag-is-set (at 15 z) (fits-at minuteRanges z h 15 (lit< tt) .1),
       ))
 
 -- ---- numbers that are accepted
@@ -88,22 +88,22 @@ unfolding numbered
 numbered-accepted true a b h = (refl, cc)
 numbered-accepted false a b h = let e : _≡_ {A = ℕ} 0 1 = cc in absurd (omega arith)
 
-pub accepted-there : {A : Type 0} (rs : List Range) (from : List ℤ → A) (numbers : A → List ℤ) (z : List ℤ) (a : A)
+pub numbers-accepted : {A : Type 0} (rs : List Range) (from : List ℤ → A) (numbers : A → List ℤ) (z : List ℤ) (a : A)
     → (fits rs z ≡ true → numbers (from z) ≡ listed (length rs) (λ i. at i z))
     → numbered (fitsAll rs z) (from z) ≡ accepted a → numbers a ≡ z
-accepted-there rs from numbers z a there h =
+numbers-accepted rs from numbers z a numbers-from h =
     let w = numbered-accepted (fitsAll rs z) (from z) a h in
     let v = both (eqb (length z) (length rs)) (fits rs z) (w .0) in
-    rw (w .1) at (there (v .1)) ∙ listed-all (length rs) z (eqb-true (length z) (length rs) (v .0))
+    rw (w .1) at (numbers-from (v .1)) ∙ listed-all (length rs) z (eqb-true (length z) (length rs) (v .0))
 
 pub numbers-time : (z : List ℤ) (t : ClockTime) → timeOf z ≡ accepted t → timeNumbers t ≡ z
 unfolding timeRanges
-numbers-time z t = accepted-there timeRanges timeFrom timeNumbers z t (time-there z)
+numbers-time z t = numbers-accepted timeRanges timeFrom timeNumbers z t (numbers-time-from z)
 
 pub numbers-gps : (z : List ℤ) (g : GpsTime) → gpsOf z ≡ accepted g → gpsNumbers g ≡ z
 unfolding gpsRanges timeRanges
-numbers-gps z g = accepted-there gpsRanges gpsFrom gpsNumbers z g (gps-there z)
+numbers-gps z g = numbers-accepted gpsRanges gpsFrom gpsNumbers z g (numbers-gps-from z)
 
 pub numbers-minute : (z : List ℤ) (a : MinuteTime) → minuteOf z ≡ accepted a → minuteNumbers a ≡ z
 unfolding minuteRanges timeRanges
-numbers-minute z a = accepted-there minuteRanges minuteFrom minuteNumbers z a (minute-there z)
+numbers-minute z a = numbers-accepted minuteRanges minuteFrom minuteNumbers z a (numbers-minute-from z)

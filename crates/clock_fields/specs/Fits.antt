@@ -7,7 +7,7 @@ use Rattle.clock_time.specs.declared.Position.{Position}
 use Rattle.clock_fields.specs.Ranges.{i16Range, i32Range, within}
 
 -- a clock time whose numbers fit the fields of `ClockTime`, as those of each do that a function takes or returns
-pub record Holds (t : ClockTime) : Type 0 where
+pub record FitsClockTime (t : ClockTime) : Type 0 where
   pub year : t .year ≤ 65535
   pub month : t .month ≤ 255
   pub day : t .day ≤ 255
@@ -18,7 +18,7 @@ pub record Holds (t : ClockTime) : Type 0 where
   pub offset : within i16Range (t .«utc_offset») ≡ true
 
 -- the same of a position
-pub record HoldsPosition (p : Position) : Type 0 where
+pub record FitsPosition (p : Position) : Type 0 where
   pub latitude : within i32Range (p .latitude) ≡ true
   pub longitude : within i32Range (p .longitude) ≡ true
   pub height : p .height ≤ 65535

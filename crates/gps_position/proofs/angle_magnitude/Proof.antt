@@ -4,8 +4,8 @@ use mathlib.Core.List.{[], _∷_}
 use Rattle.decimal.specs.Decimal.{isDigit, valueFrom}
 use Rattle.gps_position.specs.Aligned.{digitsOrBlanks}
 use Rattle.gps_position.proofs.AlignedLaws.{value-small}
-use Rattle.gps_position.proofs.angle_size.Statement.{statement}
-use Rattle.gps_position.proofs.angle_size.Tie as tie
+use Rattle.gps_position.proofs.angle_magnitude.Statement.{statement}
+use Rattle.gps_position.proofs.angle_magnitude.Tie as tie
 
 four-requires : tie.Need-four-requires
 unfolding digitsOrBlanks isDigit
@@ -31,5 +31,5 @@ returns : tie.Need-returns
 unfolding valueFrom
 returns c = omega (arith, c .before .four .ensures, c .four2 .ensures)
 
-pub angle-size-spec : {M : Type 1} → statement M
-angle-size-spec = tie.close (tie.spec four-requires mul-result (λ c κs. search needs) add-result returns)
+pub angle-magnitude-spec : {M : Type 1} → statement M
+angle-magnitude-spec = tie.close (tie.spec four-requires mul-result (λ c κs. search needs) add-result returns)

@@ -104,9 +104,9 @@ module _ (m : List ℕ) (r : RunRules m) where
       let all : slice 0 n m ≡ m = rw (← e) (slice-all m) in
       ap (λ (l : List ℕ). l ++ cond (eqb (length m) 60) (0 ∷ []) []) first-marks ∙ rw e (last ∙ all)
 
-  minute-back : LeapRule m (announced m) → minuteText (minuteFields m) ≡ m
-  minute-back leap =
+  text-fields : LeapRule m (announced m) → minuteText (minuteFields m) ≡ m
+  text-fields leap =
       ⊎-elim (λ e. whole-run 59 e refl) (λ e. whole-run 60 e (rw (leap e .1))) (r .marks)
 
 pub text-read : (m : List ℕ) (a : MinuteTime) → readMinute m ≡ accepted a → minuteText a ≡ m
-text-read m a h = let w = read-keeps m a h in rw (w .1) (minute-back m (w .0 .0) (w .0 .2))
+text-read m a h = let w = read-keeps m a h in rw (w .1) (text-fields m (w .0 .0) (w .0 .2))

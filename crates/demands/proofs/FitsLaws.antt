@@ -14,29 +14,29 @@ use Rattle.calendar.specs.UnixTime.{offsetInRange, isReading}
 use Rattle.calendar.proofs.ValidLaws.{valid}
 use Rattle.meinberg_gps.specs.Gps.{gps, gpsFields, readGps}
 use Rattle.meinberg_gps.specs.declared.GpsTime.{GpsTime}
-use Rattle.gps_position.specs.Position.{Angle, latitude, longitude, angleSize, angleOf, positionOf}
+use Rattle.gps_position.specs.Position.{Angle, latitude, longitude, angleMagnitude, angleOf, positionOf}
 use Rattle.layout.proofs.AcceptLaws.{read-passes}
 use Rattle.gps_position.proofs.AlignedLaws.{value-small}
 use Rattle.gps_position.proofs.PositionLaws.{faultless, range-limit}
-use Rattle.signed.proofs.SignedLaws.{signed-size}
+use Rattle.signed.proofs.SignedLaws.{signed-magnitude}
 use Rattle.dcf77.specs.Minute.{minuteFields, readMinute}
 use Rattle.dcf77.specs.declared.MinuteTime.{MinuteTime}
 use Rattle.dcf77.proofs.MarkLaws.{small-sure, binary-below}
 use Rattle.dcf77.proofs.AcceptLaws.{read-keeps}
 use Rattle.clock_fields.specs.Ranges.{range, i16Range, i32Range, within}
-use Rattle.clock_fields.specs.Held.{Holds, HoldsPosition}
+use Rattle.clock_fields.specs.Fits.{FitsClockTime, FitsPosition}
 
--- a number of a size is within the range of that size
-size-within : (m : ℕ) (z : ℤ) → natAbs z ≤ m → within (range (negsuc m) (pos m)) z ≡ true
-size-within m (pos n) h = le-leb n m h
-size-within m (negsuc n) h = simp (le-leb n m (omega arith))
+-- a number is within the range of its magnitude
+magnitude-within : (m : ℕ) (z : ℤ) → natAbs z ≤ m → within (range (negsuc m) (pos m)) z ≡ true
+magnitude-within m (pos n) h = le-leb n m h
+magnitude-within m (negsuc n) h = simp (le-leb n m (omega arith))
 
 offset-small : (z : ℤ) → offsetInRange z ≡ true → within i16Range z ≡ true
 unfolding offsetInRange
-offset-small z h = let k = leb-true (natAbs z) 840 h in size-within 32767 z (omega arith)
+offset-small z h = let k = leb-true (natAbs z) 840 h in magnitude-within 32767 z (omega arith)
 
-pub valid-holds : (t : ClockTime) → isReading t ≡ true → Holds t
-valid-holds t h =
+pub valid-fits : (t : ClockTime) → isReading t ≡ true → FitsClockTime t
+valid-fits t h =
     let v = valid t h in
     record {
       year = omega (arith, v .date .year-most);
@@ -50,17 +50,17 @@ valid-holds t h =
     }
 
 -- ---- a position
-angle-within : (a : Angle) (s : List ℕ) → a .limit ≤ 2147483647 → angleSize a s ≤ a .limit
+angle-within : (a : Angle) (s : List ℕ) → a .limit ≤ 2147483647 → angleMagnitude a s ≤ a .limit
     → within i32Range (angleOf a s) ≡ true
 unfolding angleOf
-angle-within a s small most = size-within 2147483647 (angleOf a s) (rw signed-size (omega arith))
+angle-within a s small most = magnitude-within 2147483647 (angleOf a s) (rw signed-magnitude (omega arith))
 
-pub position-holds : (s : List ℕ) (g : GpsTime) → readGps s ≡ accepted g → HoldsPosition (g .position)
+pub position-fits : (s : List ℕ) (g : GpsTime) → readGps s ≡ accepted g → FitsPosition (g .position)
 unfolding readGps gps gpsFields positionOf
-position-holds s g h =
+position-fits s g h =
     let r = read-passes gps s g h in
     let f = faultless s (r .0 .own .1 .0) in
-    let small = value-small (slice 60 4 s) (f .stand .height-plain) in
+    let small = value-small (slice 60 4 s) (f .stand .height-numeric) in
     rw (r .1)
     (record {
       latitude = angle-within latitude s (lit≤ tt) (range-limit latitude s (f .latitude-range));

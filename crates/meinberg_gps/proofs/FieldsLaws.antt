@@ -14,13 +14,13 @@ use Rattle.clock_time.specs.Lists.{ascii, slice}
 use Rattle.layout.specs.Layout.{allowed, FitsLayout, number, has}
 use Rattle.layout.specs.Text.{letter}
 use Rattle.layout.proofs.AcceptLaws.{PassesText}
-use Rattle.layout.proofs.WriteLaws.{restore-fits, digits-number, digits-year, letter-back}
-use Rattle.gps_position.proofs.PositionBackLaws.{position-back}
+use Rattle.layout.proofs.WriteLaws.{restore-fits, digits-number, digits-year, letter-has}
+use Rattle.gps_position.proofs.PositionReadLaws.{text-position}
 use Rattle.meinberg_pzf.specs.Pzf.{pzfText}
 use Rattle.meinberg_gps.specs.Gps.{gpsLayout, offsetOf, leapMismatch, clockOf, gpsFields, lineWith, gpsText}
 use Rattle.meinberg_gps.specs.Gps.{sameGps, gps}
 use Rattle.meinberg_gps.specs.declared.GpsTime.{GpsTime}
-use Rattle.meinberg_gps.proofs.OffsetLaws.{offset-back}
+use Rattle.meinberg_gps.proofs.OffsetLaws.{text-offset}
 
 -- the PZF string with the date, the time and the flags of a GPS string
 abbrev pzfAt : List ℕ → List ℕ
@@ -30,9 +30,9 @@ pzfAt s =
     ++ ascii "; " ++ slice 14 2 s ++ ascii ":" ++ slice 17 2 s ++ ascii ":" ++ slice 20 2 s
     ++ ascii "; " ++ (letter (eqℤ (offsetOf s) (pos 0)) "U" ∷ slice 32 6 s ++ ascii "\u{3}")
 
-pzf-back : {s : List ℕ} → FitsLayout gpsLayout s → pzfText (clockOf s) ≡ pzfAt s
+text-clock : {s : List ℕ} → FitsLayout gpsLayout s → pzfText (clockOf s) ≡ pzfAt s
 unfolding pzfText clockOf gpsLayout ascii allowed
-pzf-back h = simp (digits-number h 2, digits-number h 1, digits-year h, letter-back h)
+text-clock h = simp (digits-number h 2, digits-number h 1, digits-year h, letter-has h)
 
 pub agree : (a b : Bool) → not (Bool·beq a b) ≡ false → a ≡ b
 agree true true h = refl
@@ -40,21 +40,21 @@ agree true false h = absurd (true≢false h)
 agree false true h = absurd (true≢false h)
 agree false false h = refl
 
-leap-back : {s : List ℕ} → FitsLayout gpsLayout s → leapMismatch s ≡ false
+letter-leap : {s : List ℕ} → FitsLayout gpsLayout s → leapMismatch s ≡ false
     → letter (eqb (number 2 20 s) 60) "L" ≡ getD s 38 0
 unfolding leapMismatch gpsLayout ascii allowed
-leap-back {s} fit h =
-    rw (← (agree (has "L" 38 s) (eqb (number 2 20 s) 60) h)) (letter-back fit 38 (code "L") refl)
+letter-leap {s} fit h =
+    rw (← (agree (has "L" 38 s) (eqb (number 2 20 s) 60) h)) (letter-has fit 38 (code "L") refl)
 
-pub gps-back : (s : List ℕ) → PassesText gps s → gpsText (gpsFields s) ≡ s
+pub text-fields : (s : List ℕ) → PassesText gps s → gpsText (gpsFields s) ≡ s
 unfolding gpsText lineWith gpsFields gps clockOf gpsLayout ascii
-gps-back s r =
+text-fields s r =
     let fit = r .clock .fits in
     rw (
-      pzf-back fit,
-      offset-back fit (r .own .0),
-      leap-back fit (r .agrees),
-      position-back s (r .own .1 .0),
+      text-clock fit,
+      text-offset fit (r .own .0),
+      letter-leap fit (r .agrees),
+      text-position s (r .own .1 .0),
     )
     (restore-fits fit)
 

@@ -15,13 +15,13 @@ use Rattle.clock_numbers.specs.Numbers.{flagNumber, timeNumbers, gpsNumbers, mi
 use Rattle.clock_fields.specs.Ranges.{Range, upTo, i32Range, within, timeRanges, gpsRanges, minuteRanges}
 use Rattle.clock_fields.specs.Ranges.{fits, isSet}
 use Rattle.clock_fields.specs.Ranges.{timeFrom, gpsFrom, minuteFrom, timeOf, firstTimeOf, gpsOf, minuteOf}
-use Rattle.clock_fields.specs.Held.{Holds, HoldsPosition}
+use Rattle.clock_fields.specs.Fits.{FitsClockTime, FitsPosition}
 use Rattle.clock_fields.proofs.RangeLaws.{numbered-fit}
 
-flag-back : (b : Bool) → isSet (flagNumber b) ≡ b
+is-set-flag : (b : Bool) → isSet (flagNumber b) ≡ b
 unfolding eqℤ
-flag-back true = refl
-flag-back false = refl
+is-set-flag true = refl
+is-set-flag false = refl
 
 -- ---- numbers in their ranges
 up-within : (m n : ℕ) → n ≤ m → within (upTo m) (pos n) ≡ true
@@ -32,7 +32,7 @@ flag-within true = refl
 flag-within false = refl
 
 -- the first 14 of some numbers
-module _ (t : ClockTime) (h : Holds t) (z : List ℤ) where
+module _ (t : ClockTime) (h : FitsClockTime t) (z : List ℤ) where
   time-fits : (rs : List Range) → fits (timeRanges ++ rs) (timeNumbers t ++ z) ≡ fits rs z
   unfolding timeRanges timeNumbers fits
   time-fits rs =
@@ -50,20 +50,21 @@ module _ (t : ClockTime) (h : Holds t) (z : List ℤ) where
 
   time-from : timeFrom (timeNumbers t ++ z) ≡ t
   unfolding timeFrom timeNumbers
-  time-from = simp flag-back
+  time-from = simp is-set-flag
 
-  pub first-back : firstTimeOf (timeNumbers t ++ z) ≡ accepted t
+  pub first-time-numbers : firstTimeOf (timeNumbers t ++ z) ≡ accepted t
   unfolding timeRanges fits
-  first-back = sym (numbered-fit (time-fits []) (sym time-from))
+  first-time-numbers = sym (numbered-fit (time-fits []) (sym time-from))
 
 -- ---- the numbers of a reading
-pub time-back : (t : ClockTime) → Holds t → timeOf (timeNumbers t) ≡ accepted t
+pub time-numbers : (t : ClockTime) → FitsClockTime t → timeOf (timeNumbers t) ≡ accepted t
 unfolding timeRanges timeNumbers fits
-time-back t h = sym (numbered-fit (time-fits t h [] []) (sym (time-from t h [])))
+time-numbers t h = sym (numbered-fit (time-fits t h [] []) (sym (time-from t h [])))
 
-pub gps-back : (g : GpsTime) → Holds (g .time) → HoldsPosition (g .position) → gpsOf (gpsNumbers g) ≡ accepted g
+pub gps-numbers : (g : GpsTime) → FitsClockTime (g .time) → FitsPosition (g .position)
+    → gpsOf (gpsNumbers g) ≡ accepted g
 unfolding gpsFrom gpsNumbers gpsRanges timeRanges timeNumbers fits
-gps-back g h p =
+gps-numbers g h p =
     let x = g .position in
     let z = x .latitude ∷ x .longitude ∷ pos (x .height) ∷ [] in
     let rest : fits (i32Range ∷ i32Range ∷ upTo 65535 ∷ []) z ≡ true =
@@ -72,14 +73,14 @@ gps-back g h p =
     (numbered-fit (time-fits (g .time) h z (i32Range ∷ i32Range ∷ upTo 65535 ∷ []) ∙ rest)
     (simp (time-from (g .time) h z)))
 
-pub minute-back : (a : MinuteTime) → Holds (a .time) → a .detail .«first_marks» ≤ 65535
+pub minute-numbers : (a : MinuteTime) → FitsClockTime (a .time) → a .detail .«first_marks» ≤ 65535
     → minuteOf (minuteNumbers a) ≡ accepted a
 unfolding minuteFrom minuteNumbers minuteRanges timeRanges timeNumbers fits
-minute-back a h marks =
+minute-numbers a h marks =
     let d = a .detail in
     let z = pos (d .«first_marks») ∷ flagNumber (d .sixty) ∷ [] in
     let rest : fits (upTo 65535 ∷ upTo 1 ∷ []) z ≡ true =
     simp (up-within 65535 (d .«first_marks») marks, flag-within) in
     sym
     (numbered-fit (time-fits (a .time) h z (upTo 65535 ∷ upTo 1 ∷ []) ∙ rest)
-    (simp (time-from (a .time) h z, flag-back)))
+    (simp (time-from (a .time) h z, is-set-flag)))

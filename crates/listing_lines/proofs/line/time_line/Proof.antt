@@ -9,8 +9,8 @@ use Rattle.decimal.proofs.PairLaws.{first-byte, second-byte}
 use Rattle.layout.specs.Text.{clockDigits}
 use Rattle.listing_lines.specs.Line.{lineWith}
 use Rattle.listing_lines.proofs.LineLaws.{line-parts}
-use Rattle.listing_lines.proofs.line.line_of.Statement.{statement}
-use Rattle.listing_lines.proofs.line.line_of.Tie as tie
+use Rattle.listing_lines.proofs.line.time_line.Statement.{statement}
+use Rattle.listing_lines.proofs.line.time_line.Tie as tie
 
 offset-fits : (c : tie.Start) → SFits w16 (c .args .t .«utc_offset»)
 offset-fits c = search sfits-of
@@ -25,8 +25,8 @@ returns c =
     simp (c .clock-digits .ensures, century .pair .ensures, first-byte, second-byte)
     (line-parts (x .args .t) zone (flags .flags-text .ensures))
 
-pub line-of-spec : {M : Type 1} → statement M
-line-of-spec =
+pub time-line-spec : {M : Type 1} → statement M
+time-line-spec =
     tie.close
     (tie.spec (λ c κs. search needs) (λ c κs. search needs) (λ c. search needs) (λ c κs. search needs)
     (λ c κs. search needs) (λ c. search needs) (λ c. search needs) (λ c. search needs) (λ c. search needs)

@@ -20,39 +20,39 @@ record Next (n b : ℕ) : Type 0 where
 next : (n b : ℕ) → 48 ≤ b → b ≤ 57 → Next n b
 next n b lo hi = record { before = omega arith; here = omega arith }
 
-last-back : (n b k : ℕ) → 48 ≤ b → b ≤ 57 → aligned (suc k) (10 * n + (b - 48)) ≡ padded k n ++ (b ∷ [])
+aligned-digit : (n b k : ℕ) → 48 ≤ b → b ≤ 57 → aligned (suc k) (10 * n + (b - 48)) ≡ padded k n ++ (b ∷ [])
 unfolding aligned
-last-back n b k lo hi = let d = next n b lo hi in rw (d .before, d .here)
+aligned-digit n b k lo hi = let d = next n b lo hi in rw (d .before, d .here)
 
 -- before the last, where the number up to it is not 0
-padded-back : (n b k : ℕ) (s : List ℕ) → 48 ≤ b → b ≤ 57 → 0 < 10 * n + (b - 48)
+padded-digit : (n b k : ℕ) (s : List ℕ) → 48 ≤ b → b ≤ 57 → 0 < 10 * n + (b - 48)
     → padded (suc k) (10 * n + (b - 48)) ++ s ≡ padded k n ++ (b ∷ s)
 unfolding padded blankOr
-padded-back n b k s lo hi some =
+padded-digit n b k s lo hi some =
     let d = next n b lo hi in
     rw (ne-eqb (10 * n + (b - 48)) 0 (λ e. omega arith), d .before, d .here, append-assoc)
 
-digits-back : (c : ℕ) (s : List ℕ) → areDigits (c ∷ s) ≡ true → (k n : ℕ) → 0 < n
+aligned-value-from : (c : ℕ) (s : List ℕ) → areDigits (c ∷ s) ≡ true → (k n : ℕ) → 0 < n
     → aligned (length (c ∷ s) + k) (valueFrom n (c ∷ s)) ≡ padded k n ++ (c ∷ s)
 unfolding valueFrom
-digits-back c [] h k n some =
+aligned-value-from c [] h k n some =
     let d = digits-cons c [] h in
     let e : 1 + k ≡ suc k = omega arith in
-    rw e (last-back n c k (d .0) (d .1))
-digits-back c (b ∷ s) h k n some =
+    rw e (aligned-digit n c k (d .0) (d .1))
+aligned-value-from c (b ∷ s) h k n some =
     let d = digits-cons c (b ∷ s) h in
     let e : suc (suc (length s)) + k ≡ suc (length s) + suc k = omega arith in
     let m : 0 < 10 * n + (c - 48) = omega arith in
     rw e
-    (digits-back b s (d .2) (suc k) (10 * n + (c - 48)) m
-    ∙ padded-back n c k (b ∷ s) (d .0) (d .1) m)
+    (aligned-value-from b s (d .2) (suc k) (10 * n + (c - 48)) m
+    ∙ padded-digit n c k (b ∷ s) (d .0) (d .1) m)
 
 from-first : {s : List ℕ} → Aligned s → (k : ℕ) → aligned (length s + k) (value s) ≡ padded k 0 ++ s
 unfolding valueFrom padded blankOr
 from-first (last {b} h) k =
     let r = digit-range b h in
     let e : 1 + k ≡ suc k = omega arith in
-    rw e (last-back 0 b k (r .0) (r .1))
+    rw e (aligned-digit 0 b k (r .0) (r .1))
 from-first (blank {b} {s} h a) k =
     let e : suc (length s) + k ≡ length s + suc k = omega arith in
     rw (h, e) (from-first a (suc k) ∙ rw append-assoc)
@@ -60,12 +60,12 @@ from-first (high {b} {c} {s} lo hi d) k =
     let e : suc (suc (length s)) + k ≡ suc (length s) + suc k = omega arith in
     let m : 0 < 10 * 0 + (b - 48) = omega arith in
     let low : 48 ≤ b = omega arith in
-    rw e (digits-back c s d (suc k) (10 * 0 + (b - 48)) m ∙ padded-back 0 b k (c ∷ s) low hi m)
+    rw e (aligned-value-from c s d (suc k) (10 * 0 + (b - 48)) m ∙ padded-digit 0 b k (c ∷ s) low hi m)
 
 -- a right-aligned run of bytes is what its number is written as
-pub aligned-back : (s : List ℕ) → rightAligned s ≡ true → aligned (length s) (value s) ≡ s
+pub aligned-value : (s : List ℕ) → rightAligned s ≡ true → aligned (length s) (value s) ≡ s
 unfolding padded
-aligned-back s h = rw add-zero at (from-first (aligned-how s h) 0)
+aligned-value s h = rw add-zero at (from-first (aligned-how s h) 0)
 
 -- four digits after a number are its last four, and the number is what stands before them
 pub record FourAfter (n v : ℕ) (t : List ℕ) : Type 0 where

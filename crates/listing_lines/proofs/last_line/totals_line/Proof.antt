@@ -2,8 +2,8 @@ use borrow.Author.Needs.{needs}
 use mathlib.Core.Path.{refl}
 use Rattle.clock_time.specs.Lists.{ascii}
 use Rattle.listing_lines.proofs.LastLineLaws.{extends-line}
-use Rattle.listing_lines.proofs.last_line.line_of.Statement.{statement}
-use Rattle.listing_lines.proofs.last_line.line_of.Tie as tie
+use Rattle.listing_lines.proofs.last_line.totals_line.Statement.{statement}
+use Rattle.listing_lines.proofs.last_line.totals_line.Tie as tie
 
 returns : tie.Need-returns
 unfolding ascii
@@ -16,8 +16,8 @@ returns c =
     extends-line _ (a .before .before .put-text .ensures) (a .put-number .ensures) (b .put-text2 .ensures)
     (d .put-number2 .ensures) (e .put-text3 .ensures) (f .put-number3 .ensures) (c .put-text4 .ensures) refl
 
-pub line-of-spec : {M : Type 1} → statement M
-line-of-spec =
+pub totals-line-spec : {M : Type 1} → statement M
+totals-line-spec =
     tie.close
     (tie.spec (λ c. search needs) (λ c κs. search needs) (λ c κs. search needs) (λ c. search needs)
     (λ c κs. search needs) (λ c κs. search needs) (λ c. search needs) (λ c κs. search needs) (λ c κs. search needs)

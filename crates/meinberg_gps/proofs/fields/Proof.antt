@@ -5,8 +5,8 @@ use mir.Facts.{toZ-ofZ}
 use Rattle.clock_time.specs.Lists.{ascii}
 use Rattle.layout.proofs.PairLaws.{numbers-fit, low-digit}
 use Rattle.meinberg_gps.specs.Gps.{gpsLayout, clockOf}
-use Rattle.meinberg_gps.proofs.clock.Statement.{statement}
-use Rattle.meinberg_gps.proofs.clock.Tie as tie
+use Rattle.meinberg_gps.proofs.fields.Statement.{statement}
+use Rattle.meinberg_gps.proofs.fields.Tie as tie
 
 returns : tie.Need-returns
 unfolding clockOf gpsLayout ascii
@@ -27,8 +27,8 @@ returns c =
       low-digit h,
     ))
 
-pub clock-spec : {M : Type 1} → statement M
-clock-spec =
+pub fields-spec : {M : Type 1} → statement M
+fields-spec =
     tie.close
     (tie.spec (λ c κs. search needs) (λ c κs. search needs) (λ c κs. search needs) (λ c. search needs)
     (λ c κs. search needs) (λ c. search needs) (λ c. search needs) (λ c. search needs) (λ c. search needs)

@@ -1,11 +1,11 @@
 use borrow.Author.Needs.{needs}
-use Rattle.fields_writer.specs.Writers.{writePlain}
-use Rattle.fields_writer.proofs.write_plain.Statement.{statement}
-use Rattle.fields_writer.proofs.write_plain.Tie as tie
+use Rattle.fields_writer.specs.Writers.{writeTimeFrom}
+use Rattle.fields_writer.proofs.write_time_from.Statement.{statement}
+use Rattle.fields_writer.proofs.write_time_from.Tie as tie
 
-pub write-plain-spec : {M : Type 1} → statement M
-unfolding writePlain
-write-plain-spec =
+pub write-time-from-spec : {M : Type 1} → statement M
+unfolding writeTimeFrom
+write-time-from-spec =
     tie.close
     (tie.spec (λ c κs. search needs) (λ c. search needs) (λ c κs. search needs) (λ c. search needs) (λ c. search needs)
     (λ c.

@@ -38,8 +38,8 @@ outside: c-test $(LIST_TIMES)
 # rt proves the crates below, then the library or the program. The C API is two crates; their archives are joined.
 library: $(LIBRARY)
 target/staticlib/libradio_clock.a: $(CRATES)
-	@rt staticlib radio_clock_readings >&2 && rt staticlib radio_clock_recordings >&2
-	@printf 'create %s\naddlib %s\naddlib %s\nsave\n' $@ $(@D)/libradio_clock_readings.a $(@D)/libradio_clock_recordings.a | $(AR) -M
+	@rt staticlib c_readings >&2 && rt staticlib c_recordings >&2
+	@printf 'create %s\naddlib %s\naddlib %s\nsave\n' $@ $(@D)/libc_readings.a $(@D)/libc_recordings.a | $(AR) -M
 target/bin/list_times: $(CRATES)
 	@rt check list_times >&2
 

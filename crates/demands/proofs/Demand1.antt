@@ -40,9 +40,9 @@ use Rattle.dcf77.specs.Lines.{minuteLines}
 use Rattle.meinberg_gps.specs.Accepts.{AcceptsGps}
 use Rattle.elv_dcf7000.specs.Accepts.{AcceptsElv}
 use Rattle.dcf77.specs.Accepts.{AcceptsMinute}
-use Rattle.gps_position.specs.Position.{positionFault, positionOf, readPosition}
-use Rattle.gps_position.specs.Rules.{positionLines}
-use Rattle.gps_position.proofs.Theorems as positions
+use Rattle.meinberg_gps_position.specs.Position.{positionFault, positionOf, readPosition}
+use Rattle.meinberg_gps_position.specs.Rules.{positionLines}
+use Rattle.meinberg_gps_position.proofs.Theorems as positions
 use Rattle.time_string.specs.Kind.{kindOf, readAs}
 use Rattle.time_string.specs.declared.Kind.{Kind}
 use Rattle.time_string.specs.declared.Kind.the-variants.{Standard, Pzf, Gps, Elv}
@@ -50,12 +50,12 @@ use Rattle.recording.specs.Recording.{rule, unfit, outcomeAt, fillOutcomes, rec
 use Rattle.listing_lines.specs.Line.{timeLine, writeLine}
 use Rattle.listing_lines.specs.Totals.{totalsLine, writeTotals}
 use Rattle.listing_lines.specs.declared.Totals.{Totals}
-use Rattle.clock_fields.specs.Ranges.{timeRanges, gpsRanges, minuteRanges, fits, fitsAll, timeFrom, gpsFrom, minuteFrom}
-use Rattle.clock_fields.specs.Ranges.{numbered, firstTimeOf, timeOf, gpsOf, minuteOf}
-use Rattle.fields_writer.specs.Writers.{writeFrom, writeMinuteFrom}
-use Rattle.radio_clock_readings.specs.Strings.{kindNumberOf, readInto, unixTimeOf}
-use Rattle.radio_clock_readings.specs.Minutes.{readMinuteInto}
-use Rattle.feed_state.specs.Feed.{FeedMemory, feedInto}
+use Rattle.c_fields.specs.Ranges.{timeRanges, gpsRanges, minuteRanges, fits, fitsAll, timeFrom, gpsFrom, minuteFrom}
+use Rattle.c_fields.specs.Ranges.{numbered, firstTimeOf, timeOf, gpsOf, minuteOf}
+use Rattle.c_writer.specs.Writers.{writeFrom, writeMinuteFrom}
+use Rattle.c_readings.specs.Strings.{kindNumberOf, readInto, unixTimeOf}
+use Rattle.c_readings.specs.Minutes.{readMinuteInto}
+use Rattle.c_feed.specs.Feed.{FeedMemory, feedInto}
 use Rattle.demands.specs.Refusals.{tests, RefusesInOrder, RefusesAndKeeps, CallRefusesAndKeeps}
 use Rattle.demands.specs.Accepted.{AcceptsMinuteNumbers}
 use Rattle.demands.specs.Lines.{textOrder, ownNumbers, namedKind, minuteOrder, linesAs, kindLines}

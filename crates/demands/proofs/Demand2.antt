@@ -23,9 +23,9 @@ use Rattle.meinberg_pzf.proofs.Theorems as pzfs
 use Rattle.meinberg_gps.specs.Gps.{readGps, writeGps}
 use Rattle.meinberg_gps.specs.declared.GpsTime.{GpsTime}
 use Rattle.meinberg_gps.proofs.Theorems as gpss
-use Rattle.gps_position.specs.Position.{readPosition}
-use Rattle.gps_position.specs.Rules.{PositionRules, SaysPosition}
-use Rattle.gps_position.proofs.Theorems as positions
+use Rattle.meinberg_gps_position.specs.Position.{readPosition}
+use Rattle.meinberg_gps_position.specs.Rules.{PositionRules, SaysPosition}
+use Rattle.meinberg_gps_position.proofs.Theorems as positions
 use Rattle.elv_dcf7000.specs.Elv.{readElv, writeElv}
 use Rattle.elv_dcf7000.proofs.Theorems as elvs
 use Rattle.dcf77.specs.Minute.{readMinute, writeMinute}
@@ -38,10 +38,10 @@ use Rattle.gregorian.specs.Days.{DayAfter, OnWeekday}
 use Rattle.gregorian.proofs.Theorems as days
 use Rattle.time_string.specs.Kind.{Reading, readingTime, kindOf, readAs}
 use Rattle.time_string.specs.declared.Kind.{Kind}
-use Rattle.clock_numbers.specs.Numbers.{minuteNumbers}
-use Rattle.fields_writer.specs.Writers.{writeFrom, writeMinuteFrom}
-use Rattle.radio_clock_readings.specs.Strings.{kindNumber, kindNumberOf, readingNumbers, readInto, unixTimeOf}
-use Rattle.radio_clock_readings.specs.Minutes.{readMinuteInto}
+use Rattle.c_numbers.specs.Numbers.{minuteNumbers}
+use Rattle.c_writer.specs.Writers.{writeFrom, writeMinuteFrom}
+use Rattle.c_readings.specs.Strings.{kindNumber, kindNumberOf, readingNumbers, readInto, unixTimeOf}
+use Rattle.c_readings.specs.Minutes.{readMinuteInto}
 use Rattle.demands.specs.Accepted.{TellsKind, AcceptsAs, AcceptsNumbered, AcceptsNumbers, AcceptsMinuteNumbers}
 use Rattle.demands.specs.Exactly.{ReadsExactly, WritesExactly, CallAnswersExactly, CallReadsExactly}
 use Rattle.demands.specs.Exactly.{CallWritesExactly}

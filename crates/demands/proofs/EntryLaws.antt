@@ -22,13 +22,13 @@ use Rattle.time_string.specs.Kind.{kindOf, timeOnly, located, time, timeAndPosi
 use Rattle.time_string.specs.declared.Kind.{Kind}
 use Rattle.time_string.specs.declared.Kind.the-variants.{Standard, Pzf, Gps, Elv}
 use Rattle.dcf77.specs.Minute.{minuteChecks, minuteFields, readMinute}
-use Rattle.clock_numbers.specs.Numbers.{timeNumbers, gpsNumbers, minuteNumbers, putNumbers, putAnswer}
-use Rattle.clock_fields.specs.Ranges.{timeRanges, fits, timeFrom, numbered}
-use Rattle.fields_writer.specs.Writers.{kindNamed}
-use Rattle.fields_writer.proofs.KindLaws.{kind-unknown}
-use Rattle.radio_clock_readings.specs.Strings.{kindNumber, kindNumberOf, readingNumbers, readNumbered, readInto}
-use Rattle.radio_clock_readings.specs.Strings.{unixTimeOf}
-use Rattle.radio_clock_readings.specs.Minutes.{readMinuteInto}
+use Rattle.c_numbers.specs.Numbers.{timeNumbers, gpsNumbers, minuteNumbers, putNumbers, putAnswer}
+use Rattle.c_fields.specs.Ranges.{timeRanges, fits, timeFrom, numbered}
+use Rattle.c_writer.specs.Writers.{kindNamed}
+use Rattle.c_writer.proofs.KindLaws.{kind-unknown}
+use Rattle.c_readings.specs.Strings.{kindNumber, kindNumberOf, readingNumbers, readNumbered, readInto}
+use Rattle.c_readings.specs.Strings.{unixTimeOf}
+use Rattle.c_readings.specs.Minutes.{readMinuteInto}
 use Rattle.demands.specs.Lines.{namedKind, numberCount}
 use Rattle.demands.proofs.Checks.{checksAs, readingAs, kindChecks, kindCheck, roomCheck, readChecks}
 use Rattle.demands.proofs.Checks.{readMinuteChecks}

@@ -14,17 +14,17 @@ use Rattle.calendar.specs.UnixTime.{offsetInRange, isReading}
 use Rattle.calendar.proofs.ValidLaws.{valid}
 use Rattle.meinberg_gps.specs.Gps.{gps, gpsFields, readGps}
 use Rattle.meinberg_gps.specs.declared.GpsTime.{GpsTime}
-use Rattle.gps_position.specs.Position.{Angle, latitude, longitude, angleMagnitude, angleOf, positionOf}
+use Rattle.meinberg_gps_position.specs.Position.{Angle, latitude, longitude, angleMagnitude, angleOf, positionOf}
 use Rattle.layout.proofs.AcceptLaws.{read-passes}
-use Rattle.gps_position.proofs.AlignedLaws.{value-small}
-use Rattle.gps_position.proofs.PositionLaws.{faultless, range-limit}
+use Rattle.meinberg_gps_position.proofs.AlignedLaws.{value-small}
+use Rattle.meinberg_gps_position.proofs.PositionLaws.{faultless, range-limit}
 use Rattle.signed.proofs.SignedLaws.{signed-magnitude}
 use Rattle.dcf77.specs.Minute.{minuteFields, readMinute}
 use Rattle.dcf77.specs.declared.MinuteTime.{MinuteTime}
 use Rattle.dcf77.proofs.MarkLaws.{small-sure, binary-below}
 use Rattle.dcf77.proofs.AcceptLaws.{read-keeps}
-use Rattle.clock_fields.specs.Ranges.{range, i16Range, i32Range, within}
-use Rattle.clock_fields.specs.Fits.{FitsClockTime, FitsPosition}
+use Rattle.c_fields.specs.Ranges.{range, i16Range, i32Range, within}
+use Rattle.c_fields.specs.Fits.{FitsClockTime, FitsPosition}
 
 -- a number is within the range of its magnitude
 magnitude-within : (m : ℕ) (z : ℤ) → natAbs z ≤ m → within (range (negsuc m) (pos m)) z ≡ true

@@ -20,12 +20,12 @@ use Rattle.calendar.specs.Rules.{ValidReading}
 use Rattle.calendar.specs.UnixTime.{isReading, instantOf, unixTime}
 use Rattle.calendar.proofs.RulesLaws.{valid-exactly}
 use Rattle.gregorian.proofs.Theorems.{day-after-exactly}
-use Rattle.clock_numbers.specs.Numbers.{timeNumbers}
-use Rattle.clock_fields.specs.Ranges.{Range, within, timeRanges, fits, timeFrom, numbered}
-use Rattle.clock_fields.proofs.FitsLaws.{first-time-numbers}
-use Rattle.clock_fields.proofs.Theorems as fields
+use Rattle.c_numbers.specs.Numbers.{timeNumbers}
+use Rattle.c_fields.specs.Ranges.{Range, within, timeRanges, fits, timeFrom, numbered}
+use Rattle.c_fields.proofs.FitsLaws.{first-time-numbers}
+use Rattle.c_fields.proofs.Theorems as fields
 use Rattle.time_string.specs.Kind.{Reading, readingTime}
-use Rattle.radio_clock_readings.specs.Strings.{readingNumbers, unixTimeOf}
+use Rattle.c_readings.specs.Strings.{readingNumbers, unixTimeOf}
 use Rattle.demands.specs.Accepted.{AcceptsNumbered}
 use Rattle.demands.specs.Lines.{instantLinesOf}
 use Rattle.demands.specs.Instant.{Instant, InstantOf, InstantOfNumbers}

@@ -27,11 +27,11 @@ use Rattle.elv_dcf7000.proofs.Theorems as elvs
 use Rattle.time_string.specs.Kind.{Reading, time, timeAndPosition, timeOnly, located, kindOf, readAs}
 use Rattle.time_string.specs.declared.Kind.{Kind}
 use Rattle.time_string.specs.declared.Kind.the-variants.{Standard, Pzf, Gps, Elv}
-use Rattle.clock_numbers.specs.Numbers.{putAnswer}
-use Rattle.clock_numbers.proofs.NumberLaws.{put-no-room, put-room}
-use Rattle.fields_writer.specs.Writers.{kindNamed}
-use Rattle.fields_writer.proofs.KindLaws.{kind-unknown}
-use Rattle.radio_clock_readings.specs.Strings.{kindNumber, kindNumberOf, readNumbered}
+use Rattle.c_numbers.specs.Numbers.{putAnswer}
+use Rattle.c_numbers.proofs.NumberLaws.{put-no-room, put-room}
+use Rattle.c_writer.specs.Writers.{kindNamed}
+use Rattle.c_writer.proofs.KindLaws.{kind-unknown}
+use Rattle.c_readings.specs.Strings.{kindNumber, kindNumberOf, readNumbered}
 use Rattle.demands.specs.Accepted.{TellsKind, Hands, AcceptsAs, AcceptsNumbered}
 use Rattle.demands.specs.Exactly.{ReadsExactly, CallAnswersExactly, CallReadsExactly}
 

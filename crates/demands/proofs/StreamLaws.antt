@@ -13,8 +13,8 @@ use Rattle.clock_time.specs.Called.{called, calledMemory}
 use Rattle.framing.specs.Feed.{feedOf}
 use Rattle.framing.proofs.Theorems as framing
 use Rattle.clock_time.proofs.ErrorLaws.{apart}
-use Rattle.feed_state.specs.Feed.{FeedMemory, feedMemory, framerIn, stateBytes, eventNumber, feedInto}
-use Rattle.feed_state.proofs.Theorems as states
+use Rattle.c_feed.specs.Feed.{FeedMemory, feedMemory, framerIn, stateBytes, eventNumber, feedInto}
+use Rattle.c_feed.proofs.Theorems as states
 use Rattle.listing.specs.declared.Listing.{Listing}
 use Rattle.listing.specs.Listing.{textOf, takenOf, listOf}
 use Rattle.listing.proofs.CallsLaws.{call-text}

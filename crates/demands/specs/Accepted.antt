@@ -14,8 +14,8 @@ use Rattle.dcf77.specs.declared.MinuteTime.{MinuteTime}
 use Rattle.time_string.specs.Kind.{Reading, time, timeAndPosition}
 use Rattle.time_string.specs.declared.Kind.{Kind}
 use Rattle.time_string.specs.declared.Kind.the-variants.{Standard, Pzf, Gps, Elv}
-use Rattle.clock_numbers.specs.Numbers.{minuteNumbers}
-use Rattle.radio_clock_readings.specs.Strings.{kindNumber, readingNumbers}
+use Rattle.c_numbers.specs.Numbers.{minuteNumbers}
+use Rattle.c_readings.specs.Strings.{kindNumber, readingNumbers}
 
 -- "66 long is GPS; 32 long is standard if place 1 holds `D`, else PZF; 21 long is ELV" (01, Meinberg and ELV strings)
 abbrev pub TellsKind : List ℕ → Kind → Type 0

@@ -18,7 +18,7 @@ use Rattle.elv_dcf7000.specs.Lines.{elvLines}
 use Rattle.dcf77.specs.Lines.{minuteLines}
 use Rattle.time_string.specs.declared.Kind.{Kind}
 use Rattle.time_string.specs.declared.Kind.the-variants.{Standard, Pzf, Gps, Elv}
-use Rattle.clock_numbers.specs.Numbers.{timeNumbers}
+use Rattle.c_numbers.specs.Numbers.{timeNumbers}
 use Rattle.demands.specs.Accepted.{AcceptsNumbers}
 
 -- ---- the orders

@@ -6,8 +6,8 @@ use lib.ListN.{length, take, drop}
 use Rattle.framing.specs.declared.Event.{Event}
 use Rattle.framing.specs.declared.Event.the-variants.{Complete}
 use Rattle.framing.specs.Steps.{BySteps}
-use Rattle.feed_state.specs.Feed.{FeedMemory, framerIn, stateBytes}
-use Rattle.feed_state.specs.Event.{EventSays}
+use Rattle.c_feed.specs.Feed.{FeedMemory, framerIn, stateBytes}
+use Rattle.c_feed.specs.Event.{EventSays}
 use Rattle.listing.specs.declared.Listing.{Listing}
 use Rattle.listing.specs.Listing.{ListedInto, after, textOf}
 

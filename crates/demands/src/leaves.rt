@@ -4,10 +4,10 @@ use clock_time::ClockTime;
 use clock_time::WriteAnswer;
 use dcf77::MinuteAnswer;
 use decimal::DigitsRead;
-use gps_position::PositionAnswer;
 use layout::ReadAnswer;
 use listing_lines::Totals;
 use meinberg_gps::GpsAnswer;
+use meinberg_gps_position::PositionAnswer;
 ghost use Prim.Native.Nat.{_^_};
 ghost use mathlib.Core.Path.{_≡_};
 ghost use mathlib.Core.Bool.{not, _&&_, false};
@@ -20,14 +20,14 @@ ghost use Rattle.calendar.specs.Weekday.{withWeekday};
 ghost use Rattle.calendar.specs.UnixTime.{isReading};
 ghost use Rattle.decimal.specs.Decimal.{firstNonDigit, digits, digitsAnswer, readDigits, writeDigits};
 ghost use Rattle.layout.specs.Text.{supportedDay, clockChecks, readAnswer};
-ghost use Rattle.gps_position.specs.Position.{positionAnswer};
-ghost use Rattle.gps_position.specs.Rules.{PositionRules, SaysPosition, positionLines};
+ghost use Rattle.meinberg_gps_position.specs.Position.{positionAnswer};
+ghost use Rattle.meinberg_gps_position.specs.Rules.{PositionRules, SaysPosition, positionLines};
 ghost use Rattle.meinberg_gps.specs.Gps.{gpsAnswer};
 ghost use Rattle.dcf77.specs.Minute.{minuteAnswer};
 ghost use Rattle.listing_lines.specs.Line.{timeLine, writeLine};
 ghost use Rattle.listing_lines.specs.Totals.{totalsLine, writeTotals};
-ghost use Rattle.clock_fields.specs.Ranges.{timeRanges, gpsRanges, minuteRanges, fits, fitsAll};
-ghost use Rattle.clock_fields.specs.Ranges.{firstTimeOf, timeOf, gpsOf, minuteOf};
+ghost use Rattle.c_fields.specs.Ranges.{timeRanges, gpsRanges, minuteRanges, fits, fitsAll};
+ghost use Rattle.c_fields.specs.Ranges.{firstTimeOf, timeOf, gpsOf, minuteOf};
 ghost use Rattle.demands.specs.Refusals.{tests, RefusesInOrder, RefusesAndKeeps};
 ghost use Rattle.demands.specs.Lines.{writeLines, writerLines};
 ghost use Rattle.demands.specs.Accepted.{AcceptsNumbers, AcceptsMinuteNumbers};
@@ -43,7 +43,7 @@ fn write_string(kind: u8, fields: &[i32], out: &mut [u8]) -> WriteAnswer
         (written r (now (out .exit)))
         ⌝ }
 {
-    fields_writer::write_string(kind, fields, out)
+    c_writer::write_string(kind, fields, out)
 }
 
 fn write_marks(fields: &[i32], out: &mut [u8]) -> WriteAnswer
@@ -56,7 +56,7 @@ fn write_marks(fields: &[i32], out: &mut [u8]) -> WriteAnswer
         (written r (now (out .exit)))
         ⌝ }
 {
-    fields_writer::write_marks(fields, out)
+    c_writer::write_marks(fields, out)
 }
 
 fn check_clock(t: ClockTime, mismatch: bool) -> ReadAnswer
@@ -83,7 +83,7 @@ fn read_position(s: &[u8]) -> PositionAnswer
         ReadsExactly (λ p. PositionRules (now (s .entry)) × SaysPosition (now (s .entry)) p) (positionAnswer r)
         ⌝ }
 {
-    gps_position::read_position(s)
+    meinberg_gps_position::read_position(s)
 }
 
 fn first_time_of(z: &[i32]) -> ReadAnswer
@@ -92,7 +92,7 @@ fn first_time_of(z: &[i32]) -> ReadAnswer
         ⌝ }
     ensures answer { λ r. ⌜ readAnswer r ≡ firstTimeOf (now (z .entry)) ⌝ }
 {
-    clock_fields::first_time_of(z)
+    c_fields::first_time_of(z)
 }
 
 fn time_of(z: &[i32]) -> ReadAnswer
@@ -101,7 +101,7 @@ fn time_of(z: &[i32]) -> ReadAnswer
         ⌝ }
     ensures answer { λ r. ⌜ readAnswer r ≡ timeOf (now (z .entry)) ⌝ }
 {
-    clock_fields::time_of(z)
+    c_fields::time_of(z)
 }
 
 fn gps_of(z: &[i32]) -> GpsAnswer
@@ -110,7 +110,7 @@ fn gps_of(z: &[i32]) -> GpsAnswer
         ⌝ }
     ensures answer { λ r. ⌜ gpsAnswer r ≡ gpsOf (now (z .entry)) ⌝ }
 {
-    clock_fields::gps_of(z)
+    c_fields::gps_of(z)
 }
 
 fn minute_of(z: &[i32]) -> MinuteAnswer
@@ -120,7 +120,7 @@ fn minute_of(z: &[i32]) -> MinuteAnswer
         ⌝ }
     ensures answer { λ r. ⌜ minuteAnswer r ≡ minuteOf (now (z .entry)) ⌝ }
 {
-    clock_fields::minute_of(z)
+    c_fields::minute_of(z)
 }
 
 fn read_digits(s: &[u8]) -> DigitsRead

@@ -7,7 +7,7 @@ ghost use Rattle.clock_time.specs.Writing.{written};
 ghost use Rattle.dcf77.specs.Accepts.{AcceptsMinute};
 ghost use Rattle.dcf77.specs.Lines.{minuteLines};
 ghost use Rattle.dcf77.specs.Minute.{minuteAnswer};
-ghost use Rattle.run_number.specs.RunNumber.{RunNumber};
+ghost use Rattle.dcf77_outcome.specs.RunNumber.{RunNumber};
 ghost use Rattle.demands.specs.Refusals.{RefusesInOrder, RefusesAndKeeps};
 ghost use Rattle.demands.specs.Lines.{minuteOrder, writerLines};
 ghost use Rattle.demands.specs.Exactly.{ReadsExactly, WritesExactly};
@@ -34,5 +34,5 @@ fn write_minute(a: MinuteTime, out: &mut [u8]) -> WriteAnswer
 fn run_number(m: &[u8]) -> u32
     ensures { λ r. ⌜ RunNumber (now (m .entry)) r ⌝ }
 {
-    run_number::run_number(m)
+    dcf77_outcome::run_number(m)
 }

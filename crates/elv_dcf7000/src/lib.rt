@@ -42,9 +42,9 @@ fn fits(s: &[u8]) -> bool
     requires { ⌜ length (now s) ≡ 21 ⌝ }
     ensures { λ r. ⌜ r ≡ fitsFrom true 0 elvLayout (now (s .entry)) ⌝ }
 {
-    byte_words::eight_fit(s, 0, b'0', b'0', b'-', b'0', b'0', b'-', b'0', b'0')
-        & byte_words::eight_fit(s, 8, b'-', b'0', b'0', b'-', b'0', b'0', b'-', b'0')
-        & byte_words::eight_fit(s, 13, 0, 0, 0, b'0', b'-', b'0', b'0', 13)
+    layout_words::eight_fit(s, 0, b'0', b'0', b'-', b'0', b'0', b'-', b'0', b'0')
+        & layout_words::eight_fit(s, 8, b'-', b'0', b'0', b'-', b'0', b'0', b'-', b'0')
+        & layout_words::eight_fit(s, 13, 0, 0, 0, b'0', b'-', b'0', b'0', 13)
 }
 
 // The error of a string that does not fit.
@@ -74,8 +74,8 @@ fn sent_fields(s: &[u8]) -> ClockTime
     requires { ⌜ (length (now s) ≡ 21) × (FitsLayout elvLayout (now s) × (elvFlagFault (now s) ≡ false)) ⌝ }
     ensures { λ r. ⌜ r ≡ sentFields (now (s .entry)) ⌝ }
 {
-    let date = byte_words::numbers_at(s, 0);
-    let time = byte_words::numbers_at(s, 9);
+    let date = layout_words::numbers_at(s, 0);
+    let time = layout_words::numbers_at(s, 9);
     let flags = s[19] % 16;
     let summer = flags % 2 == 1;
     ClockTime {

@@ -11,12 +11,12 @@ use Rattle.decimal.specs.Decimal.{isDigit, valueFrom}
 use Rattle.layout.specs.Layout.{allowed, errorAt, offence, first}
 use Rattle.layout.specs.Text.{supportedDay, clockChecks, textChecks, readText}
 use Rattle.signed.specs.Signed.{signed, signHolds}
-use Rattle.gps_position.specs.Aligned.{areDigits, rightAligned}
-use Rattle.gps_position.specs.Position.{angleDigits, positionDigits, inRange, positionFault, angleOf, positionOf}
+use Rattle.meinberg_gps_position.specs.Aligned.{areDigits, rightAligned}
+use Rattle.meinberg_gps_position.specs.Position.{angleDigits, positionDigits, inRange, positionFault, angleOf, positionOf}
 use Rattle.meinberg_gps.specs.Gps.{gpsLayout, offsetFault, offsetOf, leapMismatch, clockOf, gpsFields, gps, readGps}
 use Rattle.dcf77.specs.Marks.{allSure, binary, twoDigits, longs, isOdd}
 use Rattle.dcf77.specs.Minute.{announced, minuteFields, minuteChecks, readMinute}
-use Rattle.run_number.specs.Number.{runNumber}
+use Rattle.dcf77_outcome.specs.Number.{runNumber}
 use Rattle.recording.specs.Gaps.{gapBefore, firstGap, gapAfter}
 use Rattle.recording.specs.Outcomes.{numbers, differ, differences}
 use Rattle.recording.specs.Rule.{ruleBy, reached}

@@ -13,7 +13,7 @@ use Rattle.calendar.specs.UnixTime.{unixTime}
 use Rattle.meinberg_gps.specs.Gps.{readGps}
 use Rattle.meinberg_gps.specs.declared.GpsTime.{GpsTime}
 use Rattle.dcf77.specs.Minute.{readMinute}
-use Rattle.run_number.specs.Number.{runNumber}
+use Rattle.dcf77_outcome.specs.Number.{runNumber}
 use Rattle.dcf77.specs.declared.MinuteTime.{MinuteTime}
 use Rattle.recording.specs.declared.FillAnswer.{FillAnswer}
 use Rattle.recording.specs.declared.CorrectAnswer.{CorrectAnswer}

@@ -15,7 +15,7 @@ use Rattle.layout.specs.Layout.{allowed, FitsLayout, number, has}
 use Rattle.layout.specs.Text.{letter}
 use Rattle.layout.proofs.AcceptLaws.{PassesText}
 use Rattle.layout.proofs.WriteLaws.{restore-fits, digits-number, digits-year, letter-has}
-use Rattle.gps_position.proofs.PositionReadLaws.{text-position}
+use Rattle.meinberg_gps_position.proofs.PositionReadLaws.{text-position}
 use Rattle.meinberg_pzf.specs.Pzf.{pzfText}
 use Rattle.meinberg_gps.specs.Gps.{gpsLayout, offsetOf, leapMismatch, clockOf, gpsFields, lineWith, gpsText}
 use Rattle.meinberg_gps.specs.Gps.{sameGps, gps}

@@ -14,10 +14,10 @@ use Rattle.layout.specs.Layout.{allowed, fitsFrom, FitsLayout}
 use Rattle.layout.proofs.LayoutLaws.{tested-fits}
 use Rattle.layout.proofs.DecideLaws.{letter-fits, letter-read, numbers-written, Decides}
 use Rattle.layout.proofs.DecideLaws as text
-use Rattle.gps_position.specs.Aligned.{padded, aligned}
-use Rattle.gps_position.specs.Position.{angleBytes, positionText, positionRepresentable}
-use Rattle.gps_position.proofs.PositionLaws.{position-representable}
-use Rattle.gps_position.proofs.PositionWrittenLaws.{PositionRead, position-read}
+use Rattle.meinberg_gps_position.specs.Aligned.{padded, aligned}
+use Rattle.meinberg_gps_position.specs.Position.{angleBytes, positionText, positionRepresentable}
+use Rattle.meinberg_gps_position.proofs.PositionLaws.{position-representable}
+use Rattle.meinberg_gps_position.proofs.PositionWrittenLaws.{PositionRead, position-read}
 use Rattle.meinberg_pzf.specs.Pzf.{pzfText}
 use Rattle.meinberg_gps.specs.Gps.{gpsLayout, offsetText, leapMismatch, clockOf, gpsFields, lineWith, gpsText}
 use Rattle.meinberg_gps.specs.Gps.{gps}

@@ -17,7 +17,7 @@ use Rattle.decimal.specs.Decimal.{digits}
 use Rattle.layout.specs.Layout.{digit, free, flag, places, number, has}
 use Rattle.layout.specs.Text.{Format, WrittenFormat, supportedDay, clockChecks, readText, writeText, letter}
 use Rattle.signed.specs.Signed.{signed, signHolds, signByte}
-use Rattle.gps_position.specs.Position.{positionFault, positionOf, positionText}
+use Rattle.meinberg_gps_position.specs.Position.{positionFault, positionOf, positionText}
 use Rattle.meinberg_pzf.specs.Pzf.{pzfText}
 use Rattle.meinberg_gps.specs.declared.GpsTime.{GpsTime}
 use Rattle.meinberg_gps.specs.declared.GpsAnswer.{GpsAnswer}

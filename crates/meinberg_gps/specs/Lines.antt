@@ -3,7 +3,7 @@ use Prim.Native.Nat.{ℕ}
 use mathlib.Core.List.{List, [], _∷_}
 use Rattle.clock_time.specs.Order.{Line, line}
 use Rattle.layout.specs.Lines.{OwnFaults, textLines}
-use Rattle.gps_position.specs.Rules.{PositionRules}
+use Rattle.meinberg_gps_position.specs.Rules.{PositionRules}
 use Rattle.meinberg_gps.specs.Says.{gpsPicture, SaysGps, OffsetRules, LeapLetter}
 
 -- 8: "offset sign or size"; 9: "position" (01, Refusal numbers); "b must be `L` exactly if the second is 60 (wrong

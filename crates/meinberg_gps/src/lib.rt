@@ -2,8 +2,8 @@
 use clock_time::ClockTime;
 use clock_time::Error;
 use clock_time::Position;
-use gps_position::PositionAnswer;
 use layout::ReadAnswer;
+use meinberg_gps_position::PositionAnswer;
 ghost use mathlib.Core.Path.{_≡_};
 ghost use lib.ListN.{length};
 ghost use Rattle.layout.specs.Layout.{FitsLayout};
@@ -29,8 +29,8 @@ fn fields(s: &[u8]) -> ClockTime
     requires { ⌜ (length (now s) ≡ 66) × FitsLayout gpsLayout (now s) ⌝ }
     ensures { λ r. ⌜ r ≡ clockOf (now (s .entry)) ⌝ }
 {
-    let date = byte_words::numbers_at(s, 1);
-    let time = byte_words::numbers_at(s, 14);
+    let date = layout_words::numbers_at(s, 1);
+    let time = layout_words::numbers_at(s, 14);
     ClockTime {
         year: gregorian::full_year(date.third),
         month: date.second,
@@ -54,7 +54,7 @@ fn mismatch(s: &[u8]) -> bool
     requires { ⌜ (length (now s) ≡ 66) × FitsLayout gpsLayout (now s) ⌝ }
     ensures { λ r. ⌜ r ≡ leapMismatch (now (s .entry)) ⌝ }
 {
-    let time = byte_words::numbers_at(s, 14);
+    let time = layout_words::numbers_at(s, 14);
     (s[38] == b'L') != (time.third == 60)
 }
 
@@ -81,7 +81,7 @@ fn read_fitting(s: &[u8]) -> GpsAnswer
     if offset::is_faulty(s) {
         return GpsAnswer::Refused(Error::UtcOffset);
     }
-    match gps_position::read_position(s) {
+    match meinberg_gps_position::read_position(s) {
         PositionAnswer::Read(p) => read_clock(s, p),
         PositionAnswer::Refused(e) => GpsAnswer::Refused(e),
     }

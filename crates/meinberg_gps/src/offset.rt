@@ -8,7 +8,7 @@ fn magnitude(s: &[u8]) -> u32
     requires { ⌜ (length (now s) ≡ 66) × FitsLayout gpsLayout (now s) ⌝ }
     ensures { λ r. ⌜ r ≡ offsetMagnitude (now (s .entry)) ⌝ }
 {
-    let numbers = byte_words::numbers_at(s, 25);
+    let numbers = layout_words::numbers_at(s, 25);
     60 * (numbers.first as u32) + numbers.second as u32
 }
 
@@ -17,7 +17,7 @@ pub(crate) fn is_faulty(s: &[u8]) -> bool
     requires { ⌜ (length (now s) ≡ 66) × FitsLayout gpsLayout (now s) ⌝ }
     ensures { λ r. ⌜ r ≡ offsetFault (now (s .entry)) ⌝ }
 {
-    let numbers = byte_words::numbers_at(s, 25);
+    let numbers = layout_words::numbers_at(s, 25);
     !((numbers.second <= 59) & signed::sign_holds(b'+', b'-', 840, s[24], magnitude(s)))
 }
 

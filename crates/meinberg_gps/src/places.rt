@@ -25,10 +25,10 @@ pub(crate) fn fits(s: &[u8]) -> bool
     requires { ⌜ length (now s) ≡ 66 ⌝ }
     ensures { λ r. ⌜ r ≡ fitsFrom true 0 gpsLayout (now (s .entry)) ⌝ }
 {
-    byte_words::eight_fit(s, 0, 2, b'0', b'0', b'.', b'0', b'0', b'.', b'0')
-        & byte_words::eight_fit(s, 8, b'0', b';', b' ', b'0', b';', b' ', b'0', b'0')
-        & byte_words::eight_fit(s, 16, b':', b'0', b'0', b':', b'0', b'0', b';', b' ')
-        & byte_words::eight_fit(s, 24, 0, b'0', b'0', b':', b'0', b'0', b';', b' ')
-        & byte_words::flags_fit(s, 32, b'#', b'*', b'S', b'!', b'A', b'R', b'L', b';')
+    layout_words::eight_fit(s, 0, 2, b'0', b'0', b'.', b'0', b'0', b'.', b'0')
+        & layout_words::eight_fit(s, 8, b'0', b';', b' ', b'0', b';', b' ', b'0', b'0')
+        & layout_words::eight_fit(s, 16, b':', b'0', b'0', b':', b'0', b'0', b';', b' ')
+        & layout_words::eight_fit(s, 24, 0, b'0', b'0', b':', b'0', b'0', b';', b' ')
+        & layout_words::flags_fit(s, 32, b'#', b'*', b'S', b'!', b'A', b'R', b'L', b';')
         & rest_fits(s)
 }

@@ -15,6 +15,6 @@ pub fn write_gps(g: GpsTime, out: &mut [u8]) -> WriteAnswer
 {
     let line = text::text_of(g);
     let representable = calendar::representable::is_representable(g.time)
-        & gps_position::is_representable(g.position);
+        & meinberg_gps_position::is_representable(g.position);
     clock_time::write_bytes(representable, &line, out)
 }

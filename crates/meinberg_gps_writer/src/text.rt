@@ -1,8 +1,8 @@
 // The bytes of a whole GPS string.
 use crate::parts;
 use crate::parts::OffsetText;
-use gps_position::PositionText;
 use meinberg_gps::GpsTime;
+use meinberg_gps_position::PositionText;
 ghost use mathlib.Core.Path.{_≡_};
 ghost use Rattle.meinberg_gps.specs.Gps.{lineWith, gpsText};
 
@@ -89,6 +89,6 @@ pub(crate) fn text_of(g: GpsTime) -> [u8; 66]
     let pzf = meinberg_pzf_writer::text_of(t);
     let offset = parts::offset_text(t.utc_offset);
     let leap = layout::letter_if(t.second == 60, b'L');
-    let position = gps_position::position_text(g.position);
+    let position = meinberg_gps_position::position_text(g.position);
     line_with(pzf, offset, leap, position)
 }

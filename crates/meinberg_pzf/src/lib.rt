@@ -67,10 +67,10 @@ fn fits(s: &[u8]) -> bool
     requires { ⌜ length (now s) ≡ 32 ⌝ }
     ensures { λ r. ⌜ r ≡ fitsFrom true 0 pzfLayout (now (s .entry)) ⌝ }
 {
-    byte_words::eight_fit(s, 0, 2, b'0', b'0', b'.', b'0', b'0', b'.', b'0')
-        & byte_words::eight_fit(s, 8, b'0', b';', b' ', b'0', b';', b' ', b'0', b'0')
-        & byte_words::eight_fit(s, 16, b':', b'0', b'0', b':', b'0', b'0', b';', b' ')
-        & byte_words::flags_fit(s, 24, b'U', b'#', b'*', b'S', b'!', b'A', b'R', 3)
+    layout_words::eight_fit(s, 0, 2, b'0', b'0', b'.', b'0', b'0', b'.', b'0')
+        & layout_words::eight_fit(s, 8, b'0', b';', b' ', b'0', b';', b' ', b'0', b'0')
+        & layout_words::eight_fit(s, 16, b':', b'0', b'0', b':', b'0', b'0', b';', b' ')
+        & layout_words::flags_fit(s, 24, b'U', b'#', b'*', b'S', b'!', b'A', b'R', 3)
 }
 
 // The error of a string that does not fit.
@@ -97,8 +97,8 @@ fn fields(s: &[u8]) -> ClockTime
     requires { ⌜ (length (now s) ≡ 32) × FitsLayout pzfLayout (now s) ⌝ }
     ensures { λ r. ⌜ r ≡ pzfFields (now (s .entry)) ⌝ }
 {
-    let date = byte_words::numbers_at(s, 1);
-    let time = byte_words::numbers_at(s, 14);
+    let date = layout_words::numbers_at(s, 1);
+    let time = layout_words::numbers_at(s, 14);
     let utc = s[24] == b'U';
     let summer = s[27] == b'S';
     ClockTime {

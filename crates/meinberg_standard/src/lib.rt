@@ -61,9 +61,9 @@ fn fits(s: &[u8]) -> bool
     requires { ⌜ length (now s) ≡ 32 ⌝ }
     ensures { λ r. ⌜ r ≡ fitsFrom true 0 standardLayout (now (s .entry)) ⌝ }
 {
-    byte_words::eight_fit(s, 0, 2, b'D', b':', b'0', b'0', b'.', b'0', b'0')
-        & byte_words::eight_fit(s, 8, b'.', b'0', b'0', b';', b'T', b':', b'0', b';')
-        & byte_words::eight_fit(s, 16, b'U', b':', b'0', b'0', b'.', b'0', b'0', b'.')
+    layout_words::eight_fit(s, 0, 2, b'D', b':', b'0', b'0', b'.', b'0', b'0')
+        & layout_words::eight_fit(s, 8, b'.', b'0', b'0', b';', b'T', b':', b'0', b';')
+        & layout_words::eight_fit(s, 16, b'U', b':', b'0', b'0', b'.', b'0', b'0', b'.')
         & ((48 <= s[24]) & (s[24] <= 57))
         & ((48 <= s[25]) & (s[25] <= 57))
         & (s[26] == b';')
@@ -98,8 +98,8 @@ fn fields(s: &[u8]) -> ClockTime
     requires { ⌜ (length (now s) ≡ 32) × FitsLayout standardLayout (now s) ⌝ }
     ensures { λ r. ⌜ r ≡ standardFields (now (s .entry)) ⌝ }
 {
-    let date = byte_words::numbers_at(s, 3);
-    let time = byte_words::numbers_at(s, 18);
+    let date = layout_words::numbers_at(s, 3);
+    let time = layout_words::numbers_at(s, 18);
     let zone = s[29];
     let announced = s[30];
     ClockTime {

@@ -10,7 +10,7 @@ use borrow.Author.Tests.{leb-false}
 use Rattle.clock_time.specs.Errors.{Passes}
 use Rattle.clock_time.proofs.ErrorLaws.{accepted-passes}
 use Rattle.clock_time.proofs.ExitLaws.{leaves-accepted}
-use Rattle.run_number.specs.Number.{runNumber}
+use Rattle.dcf77_outcome.specs.Number.{runNumber}
 use Rattle.recording.specs.Outcomes.{differences}
 use Rattle.recording.specs.Rule.{reached}
 use Rattle.recording.specs.Recording.{rule, Recorded, recorded, correction, correctionChecks, updated}

@@ -6,8 +6,8 @@ use mathlib.Core.Logic.{_↔_}
 use mathlib.Core.List.{List}
 use mathlib.Core.Option.{Option, none, some}
 use lib.ListN.{length, getD}
-use Rattle.run_number.specs.Number.{runNumber}
-use Rattle.run_number.proofs.Theorems.{run-number-exactly}
+use Rattle.dcf77_outcome.specs.Number.{runNumber}
+use Rattle.dcf77_outcome.proofs.Theorems.{run-number-exactly}
 use Rattle.recording.specs.Gaps.{gapBefore}
 use Rattle.recording.specs.Rule.{runBetween}
 use Rattle.recording.specs.Recording.{rule}

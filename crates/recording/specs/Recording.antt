@@ -6,7 +6,7 @@ use lib.Dec.{eqb, leb, ltb}
 use lib.ListN.{length, set}
 use Rattle.clock_time.specs.Errors.{Answer, accepted, refused, errorNumber, Check, given, checked}
 use Rattle.clock_time.specs.Exit.{Exit, exit, leaves}
-use Rattle.run_number.specs.Number.{runNumber}
+use Rattle.dcf77_outcome.specs.Number.{runNumber}
 use Rattle.recording.specs.Outcomes.{numbers, mended, differences}
 use Rattle.recording.specs.Rule.{ruleBy, reached}
 use Rattle.recording.specs.declared.OutcomeAnswer.{OutcomeAnswer}

@@ -3,7 +3,7 @@ use Prim.Native.Nat.{ℕ, _<_}
 use mathlib.Core.Path.{_≡_}
 use mathlib.Core.List.{List}
 use lib.ListN.{length, getD}
-use Rattle.run_number.specs.RunNumber.{RunNumber}
+use Rattle.dcf77_outcome.specs.RunNumber.{RunNumber}
 use Rattle.recording.specs.Gaps.{NearestGapBefore}
 use Rattle.recording.specs.Rule.{runBetween}
 

@@ -5,7 +5,7 @@ use clock_time::Error;
 ghost use mathlib.Core.Path.{_≡_};
 ghost use Prim.Native.Nat.{_<_, _≤_};
 ghost use lib.ListN.{length};
-ghost use Rattle.run_number.specs.Number.{runNumber};
+ghost use Rattle.dcf77_outcome.specs.Number.{runNumber};
 ghost use Rattle.recording.specs.Gaps.{gapBefore, gapOf};
 ghost use Rattle.recording.specs.Outcomes.{numbers};
 ghost use Rattle.recording.specs.Rule.{runBetween, gapNumber};
@@ -17,7 +17,7 @@ fn number_between(marks: &[u8], earlier: usize, place: usize) -> u32
     ensures { λ r. ⌜ r ≡ runNumber (runBetween (now (marks .entry)) earlier place) ⌝ }
 {
     let first = earlier + 1;
-    run_number::run_number(&marks[first..place])
+    dcf77_outcome::run_number(&marks[first..place])
 }
 
 // The number at a gap, from the nearest gap before it.

@@ -1,6 +1,6 @@
 // A recording that is made with the minute writer: whole minutes from the one that announces 8 November 2006 00:00 on,
 // a gap after each, and unsure marks where no further minute fits. The first 86,400 marks are a day.
-use radio_clock_readings::minutes::radio_clock_write_minute;
+use c_readings::minutes::radio_clock_write_minute;
 
 pub type Recording = [u8; 100001];
 

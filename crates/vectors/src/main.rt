@@ -22,7 +22,7 @@ fn answer(word: u64, v: &Numbers, s: &[u8], a: &mut Numbers) {
         commands::READ => strings::add_read(numbers::u8_at(v, 1), s, a),
         commands::KIND => strings::add_kind(s, a),
         commands::UNIX => numbers::add(a, strings::unix_time(v)),
-        commands::RUN => numbers::add(a, run_number::run_number(s) as u64),
+        commands::RUN => numbers::add(a, dcf77_outcome::run_number(s) as u64),
         commands::DIGITS => numbers::add(a, digits::read(s)),
         commands::AT => numbers::add(a, recordings::outcome_at(v, s)),
         commands::FILL | commands::CORRECT | commands::MEND | commands::UNFIT => {

@@ -8,9 +8,9 @@ use crate::day::Recording;
 use crate::numbers;
 use crate::numbers::Numbers;
 use crate::text;
-use radio_clock_recordings::radio_clock_correct_mark;
-use radio_clock_recordings::radio_clock_fill_outcomes;
-use radio_clock_recordings::radio_clock_outcome_at;
+use c_recordings::radio_clock_correct_mark;
+use c_recordings::radio_clock_fill_outcomes;
+use c_recordings::radio_clock_outcome_at;
 
 type Outcomes = [u32; 100001];
 

@@ -5,12 +5,12 @@ use crate::numbers;
 use crate::numbers::Numbers;
 use crate::text;
 use crate::text::Text;
-use radio_clock_readings::instant::radio_clock_unix_time;
-use radio_clock_readings::minutes::radio_clock_read_minute;
-use radio_clock_readings::minutes::radio_clock_write_minute;
-use radio_clock_readings::strings::radio_clock_kind;
-use radio_clock_readings::strings::radio_clock_read;
-use radio_clock_readings::strings::radio_clock_write;
+use c_readings::instant::radio_clock_unix_time;
+use c_readings::minutes::radio_clock_read_minute;
+use c_readings::minutes::radio_clock_write_minute;
+use c_readings::strings::radio_clock_kind;
+use c_readings::strings::radio_clock_read;
+use c_readings::strings::radio_clock_write;
 
 const MINUTE: u8 = 4;
 

@@ -1,6 +1,6 @@
 use borrow.Author.Needs.{needs}
 use mathlib.Core.Path.{sym}
-use Rattle.run_number.proofs.Theorems.{run-number-exactly}
+use Rattle.dcf77_outcome.proofs.Theorems.{run-number-exactly}
 use Rattle.demands.proofs.minutes.run_number.Statement.{statement}
 use Rattle.demands.proofs.minutes.run_number.Tie as tie
 

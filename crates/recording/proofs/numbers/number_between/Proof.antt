@@ -1,7 +1,7 @@
 -- The part of the marks is the run.
 use borrow.Author.Needs.{needs}
 use mathlib.Core.Path.{ap, _∙_}
-use Rattle.run_number.specs.Number.{runNumber}
+use Rattle.dcf77_outcome.specs.Number.{runNumber}
 use Rattle.recording.proofs.RuleLaws.{part-run}
 use Rattle.recording.proofs.numbers.number_between.Statement.{statement}
 use Rattle.recording.proofs.numbers.number_between.Tie as tie

@@ -1,0 +1,23 @@
+use borrow.Author.Needs.{needs}
+use native.Mathlib.Omega.{arith}
+use mathlib.Core.Path.{_≡_}
+use denote.Ref.{now}
+use lib.ListN.{length}
+use Rattle.c_feed.proofs.FeedLaws.{written-front, store-after}
+use Rattle.c_feed.proofs.store.Statement.{statement}
+use Rattle.c_feed.proofs.store.Tie as tie
+
+returns : tie.Need-returns
+returns c =
+    let w = c .before .before .before .before in
+    let x = w .before .before .before .before .before .args in
+    let long : length (x .framer .bytes) ≡ 66 = search needs in
+    rw (c .mode-number .ensures)
+    (store-after (x .framer) (now (x .state)) _ long (omega arith)
+    (written-front (w .write-bytes .result) _ _ _ (omega arith) (w .write-bytes .ensures)))
+
+pub store-spec : {M : Type 1} → statement M
+store-spec =
+    tie.close
+    (tie.spec (λ c. search needs) (λ c κs. search needs) (λ c. search needs) (λ c. search needs) (λ c κs. search needs)
+    (λ c. search needs) (λ c. search needs) returns)

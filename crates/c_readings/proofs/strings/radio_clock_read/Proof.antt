@@ -1,0 +1,36 @@
+use borrow.Author.Needs.{needs}
+use native.Mathlib.Omega.{arith}
+use Rattle.time_string.specs.Kind.{readAs}
+use Rattle.c_numbers.specs.Numbers.{putAnswer}
+use Rattle.c_writer.specs.Writers.{kindNamed}
+use Rattle.c_writer.proofs.KindLaws.{kind-unknown}
+use Rattle.c_readings.specs.Strings.{readInto, readNumbered}
+use Rattle.c_readings.proofs.StringLaws.{time-only-put, located-put}
+use Rattle.c_readings.proofs.strings.radio_clock_read.Statement.{statement}
+use Rattle.c_readings.proofs.strings.radio_clock_read.Tie as tie
+
+returns-5 : tie.Need-returns-5
+unfolding readInto readNumbered putAnswer
+returns-5 c = rw (kind-unknown (c .before .before .before .before .before .args .kind) (omega arith))
+
+pub radio-clock-read-spec : {M : Type 1} → statement M
+unfolding readInto readNumbered kindNamed readAs
+radio-clock-read-spec =
+    tie.close
+    (tie.spec (λ c κs. search needs) (λ c κs. search needs) (λ c. search needs)
+    (λ c.
+    let r = c .before .before .before in
+    rw (r .before .if1 .taken, ← (r .read-standard .ensures), ← time-only-put) (c .before .put-time .ensures))
+    (λ c κs. search needs) (λ c κs. search needs) (λ c. search needs)
+    (λ c.
+    let r = c .before .before .before in
+    rw (r .before .if2 .taken, ← (r .read-pzf .ensures), ← time-only-put) (c .before .put-time2 .ensures))
+    (λ c κs. search needs) (λ c κs. search needs) (λ c. search needs)
+    (λ c.
+    let r = c .before .before .before in
+    rw (r .before .if3 .taken, ← (r .read-gps .ensures), ← located-put) (c .before .put-gps .ensures))
+    (λ c κs. search needs) (λ c κs. search needs) (λ c. search needs)
+    (λ c.
+    let r = c .before .before .before in
+    rw (r .before .if4 .taken, ← (r .read-elv .ensures), ← time-only-put) (c .before .put-time3 .ensures))
+    returns-5)

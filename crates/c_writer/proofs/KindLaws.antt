@@ -1,0 +1,36 @@
+-- Laws of writing by kind numbers.
+use Prim.Native.Nat.{ℕ, _≤_, _<_}
+use native.Mathlib.Decide.{ℕ-discrete}
+use native.Mathlib.Omega.{arith}
+use mathlib.Core.Path.{_≡_}
+use mathlib.Core.List.{List}
+use lib.IntN.{ℤ}
+use borrow.Author.Tests.{ne-eqb}
+use Rattle.clock_time.specs.Errors.{refused}
+use Rattle.clock_time.specs.Exit.{exit}
+use Rattle.c_writer.specs.Writers.{kindNamed, writeAs, writeFrom, writeTime, writeTimeFrom}
+
+pub kind-unknown : (n : ℕ) → 3 < n → kindNamed n ≡ refused 1
+unfolding kindNamed
+kind-unknown n h =
+    simp (
+      ne-eqb n 0 (λ e. omega (arith, e)),
+      ne-eqb n 1 (λ e. omega (arith, e)),
+      ne-eqb n 2 (λ e. omega (arith, e)),
+      ne-eqb n 3 (λ e. omega (arith, e)),
+    )
+
+module _ (n : ℕ) (z : List ℤ) (d : List ℕ) where
+  pub write-unknown : 3 < n → writeFrom n z d ≡ exit (refused 1) d
+  unfolding writeFrom
+  write-unknown h = rw (kind-unknown n h)
+
+  pub write-time-from : n ≤ 3 → (n ≡ 2 → ⊥) → writeTimeFrom n z d ≡ writeFrom n z d
+  unfolding writeTimeFrom writeTime writeFrom kindNamed writeAs
+  write-time-from h other = elim (ℕ-discrete n 0) [
+    | yes zero ↦ rw zero
+    | no above ↦ elim (ℕ-discrete n 1) [
+      | yes one ↦ rw one
+      | no two ↦ let three : n ≡ 3 = omega arith in rw three
+    ]
+  ]

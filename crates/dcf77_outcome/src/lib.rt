@@ -1,0 +1,80 @@
+// The number of a run of marks.
+use calendar::date::DateAnswer;
+use dcf77::MinuteAnswer;
+use dcf77::MinuteTime;
+ghost use mathlib.Core.Path.{_≡_};
+ghost use mathlib.Core.Bool.{true};
+ghost use Prim.Native.Nat.{_+_, _*_, _<_};
+ghost use lib.IntN.{pos};
+ghost use Rattle.clock_time.specs.Errors.{accepted};
+ghost use Rattle.clock_time.specs.Same.{eqℤ};
+ghost use Rattle.gregorian.specs.Date.{supportedDate, daysSinceEpoch};
+ghost use Rattle.dcf77.specs.Minute.{mark};
+ghost use Rattle.dcf77_outcome.specs.Number.{outcomeNumber, runNumber};
+
+// Days from 1 January 1970 to a date that exists.
+fn days_to(year: u16, month: u8, day: u8) -> u32
+    requires { ⌜ supportedDate year month day ≡ true ⌝ }
+    ensures { λ r. ⌜ r ≡ daysSinceEpoch year month day ⌝ }
+{
+    match calendar::date::day_number(year, month, day) {
+        DateAnswer::Number(days) => days,
+        DateAnswer::Refused(_) => 0,
+    }
+}
+
+// The minutes from 1 January 1970 00:00.
+fn local_minutes(days: u32, hour: u8, minute: u8) -> u32
+    requires { ⌜ days < 40000 ⌝ }
+    ensures { λ r. ⌜ (r < 58000000) × (r ≡ 1440 * days + 60 * hour + minute) ⌝ }
+{
+    1440 * days + 60 * (hour as u32) + minute as u32
+}
+
+// What the length, the offset 120 and the flags add.
+fn flags_number(sixty: bool, summer: bool, antenna: bool, change: bool, leap: bool) -> u32
+    ensures { λ r. ⌜ (r < 8192)
+        × (r ≡ 16 * mark sixty + 8 * mark summer + 4 * mark antenna + 2 * mark change + mark leap) ⌝ }
+{
+    16 * (bits::bit(sixty) as u32)
+        + 8 * (bits::bit(summer) as u32)
+        + 4 * (bits::bit(antenna) as u32)
+        + 2 * (bits::bit(change) as u32)
+        + bits::bit(leap) as u32
+}
+
+// The number of a minute that was read, from its date, its time of day and what the flags add.
+fn minute_number(year: u16, month: u8, day: u8, hour: u8, minute: u8, flags: u32) -> u32
+    requires { ⌜ (supportedDate year month day ≡ true) × (flags < 8192) ⌝ }
+    ensures { λ r. ⌜ r ≡ 100 + 32 * (1440 * daysSinceEpoch year month day + 60 * hour + minute) + flags ⌝ }
+{
+    100 + 32 * local_minutes(days_to(year, month, day), hour, minute) + flags
+}
+
+// The number of a minute that was read.
+fn number_of(a: MinuteTime) -> u32
+    requires { ⌜ (supportedDate (a .time .year) (a .time .month) (a .time .day) ≡ true)
+        × (eqℤ (a .time .«utc_offset») (pos 120) ≡ a .time .«summer_time») ⌝ }
+    ensures { λ r. ⌜ r ≡ outcomeNumber (accepted a) ⌝ }
+{
+    let t = a.time;
+    let d = a.detail;
+    let flags = flags_number(
+        d.sixty,
+        t.summer_time,
+        t.alternate_antenna,
+        t.dst_change_announced,
+        t.leap_second_announced,
+    );
+    minute_number(t.year, t.month, t.day, t.hour, t.minute, flags)
+}
+
+// The number of a run of marks: the error's, or that of the minute.
+pub fn run_number(m: &[u8]) -> u32
+    ensures { λ r. ⌜ r ≡ runNumber (now (m .entry)) ⌝ }
+{
+    match dcf77::read_minute(m) {
+        MinuteAnswer::Read(a) => number_of(a),
+        MinuteAnswer::Refused(e) => clock_time::error_number(e) as u32,
+    }
+}

@@ -1,8 +1,0 @@
-use Rattle.clock_time.proofs.Tests.{tests}
-use Rattle.feed_state.specs.Feed.{modeOf}
-use Rattle.feed_state.proofs.mode_of.Statement.{statement}
-use Rattle.feed_state.proofs.mode_of.Tie as tie
-
-pub mode-of-spec : {M : Type 1} → statement M
-unfolding modeOf
-mode-of-spec = tie.close (tie.spec (λ c. search tests) (λ c. search tests) (λ c. search tests))

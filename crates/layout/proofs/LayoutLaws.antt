@@ -1,23 +1,41 @@
 -- Laws of layouts, for any layout: the search for a place that offends, and what a string that fits has at each place.
-use Prim.Native.Nat.{ℕ, zero, suc, _+_, _^_, _≤_, _<_}
+use Prim.Native.Nat.{ℕ, zero, suc, _+_, _%_, _^_, _≤_, _<_}
 use native.Mathlib.Nat.{zero-add, add-zero}
 use native.Mathlib.Decide.{decLt}
 use native.Mathlib.Numerals.{add-one}
 use native.Mathlib.Omega.{arith}
 use mathlib.Core.Path.{_≡_, refl, sym, ap, _∙_}
-use mathlib.Core.Bool.{Bool, true, false, cond, _&&_, true≢false}
+use mathlib.Core.Bool.{Bool, true, false, cond, _&&_, _||_, true≢false}
 use mathlib.Core.List.{List, [], _∷_}
 use mathlib.Core.Logic.{_⊎_, inl, inr, ⊎-elim}
 use lib.Dec.{eqb, ltb, lit<}
 use lib.ListN.{length, getD, drop, drop-of-length-le, List·getD-eq-default}
 use lib.Seq.{drop-cons}
-use borrow.Author.Tests.{eq-eqb, ne-eqb, eqb-true, eqb-false, le-ltb, ltb-false}
+use borrow.Author.Tests.{eq-eqb, ne-eqb, eqb-true, eqb-false, lt-ltb, le-ltb, ltb-false}
 use Rattle.clock_time.proofs.ListsLaws.{length-slice}
 use Rattle.clock_time.proofs.Tests.{both}
 use Rattle.clock_time.specs.Lists.{slice}
 use Rattle.decimal.specs.Decimal.{isDigit, firstNonDigit}
 use Rattle.decimal.proofs.DecimalLaws.{value-below}
-use Rattle.layout.specs.Layout.{digit, allowed, errorAt, offence, fitsFrom, first, found, FitsLayout, number}
+use Rattle.layout.specs.Layout.{digit, flagOf, allowed, errorAt, offence, fitsFrom, first, found, FitsLayout}
+use Rattle.layout.specs.Layout.{number}
+
+-- ---- one byte
+pub fixed-test : (p b : ℕ) → p < 256 → allowed p b ≡ eqb b p
+unfolding allowed
+fixed-test p b h = rw (lt-ltb p 256 h)
+
+pub flag-test : (a b : ℕ) → a < 256 → allowed (flagOf a) b ≡ (eqb b 32 || eqb b a)
+unfolding allowed
+flag-test a b h =
+    let e : (512 + a) % 256 ≡ a = omega arith in
+    rw (
+      le-ltb (512 + a) 256 (omega arith),
+      ne-eqb (512 + a) 256 (λ z. omega arith),
+      ne-eqb (512 + a) 257 (λ z. omega arith),
+      lt-ltb (512 + a) 65536 (omega arith),
+      e,
+    )
 
 -- ---- one place after the other
 module _ (l s : List ℕ) (i : ℕ) (hl : i < length l) (hs : i < length s) where

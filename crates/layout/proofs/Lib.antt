@@ -3,11 +3,6 @@ pub mod LayoutLaws
 pub mod PartLaws
 pub mod PictureLaws
 pub mod SaysLaws
-pub mod ByteLaws
-pub mod WordLaws
-pub mod SampleLaws
-pub mod FlagLaws
-pub mod PairLaws
 pub mod TextLaws
 pub mod AcceptLaws
 pub mod ExactLaws

@@ -18,7 +18,7 @@ use Rattle.decimal.specs.Decimal.{digits}
 use Rattle.decimal.proofs.DecimalLaws.{digits-value}
 use Rattle.gregorian.specs.Date.{fullYear}
 use Rattle.layout.specs.Layout.{flagOf, allowed, FitsLayout, number}
-use Rattle.layout.proofs.ByteLaws.{flag-test}
+use Rattle.layout.proofs.LayoutLaws.{flag-test}
 use Rattle.layout.proofs.LayoutLaws.{allDigits, place-within, slice-digits, number-below}
 
 -- ---- the string from its open places: the layout gives the fixed ones

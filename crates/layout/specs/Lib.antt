@@ -1,6 +1,5 @@
 -- The definitions that the contracts and the main results cite.
 pub mod Layout
-pub mod Words
 pub mod Text
 pub mod Picture
 pub mod Says

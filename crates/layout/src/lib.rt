@@ -10,8 +10,6 @@ ghost use Rattle.layout.specs.Text.{supportedDay, clockChecks, readAnswe
 ghost use mathlib.Core.Bool.{cond, false};
 ghost use Rattle.calendar.specs.Weekday.{withWeekday};
 
-pub mod words;
-
 // The clock time that was read, or the error.
 pub enum ReadAnswer {
     Read(ClockTime),

@@ -1,10 +1,16 @@
 // Eight bytes at once, as one number: whether they fit a sample or flags, and the numbers of three pairs of digits.
-use layout::words::ThreeNumbers;
 ghost use mathlib.Core.Path.{_≡_};
 ghost use mathlib.Core.List.{[], _∷_};
 ghost use Rattle.clock_time.specs.Lists.{slice};
-ghost use Rattle.layout.specs.Words.{word, enough, sampleFits, bySample, eachBySample, numbersAt};
-ghost use Rattle.layout.specs.Words.{flagsFit, nonzeroBytes};
+ghost use Rattle.layout_words.specs.Words.{word, enough, sampleFits, bySample, eachBySample, numbersAt};
+ghost use Rattle.layout_words.specs.Words.{flagsFit, nonzeroBytes};
+
+// The numbers of three pairs of digits: of a date, of a time.
+pub struct ThreeNumbers {
+    pub first: u8,
+    pub second: u8,
+    pub third: u8,
+}
 
 // The number of eight bytes side by side.
 fn join(a: u8, b: u8, c: u8, d: u8, e: u8, f: u8, g: u8, h: u8) -> u64

@@ -5,7 +5,7 @@ use mathlib.Core.List.{[], _∷_}
 use denote.Ref.{now}
 use Rattle.clock_time.specs.Lists.{ascii}
 use Rattle.layout.specs.Layout.{allowed, fitsFrom}
-use Rattle.layout.specs.Words.{enough, samplePlace, sampleFits}
+use Rattle.layout_words.specs.Words.{enough, samplePlace, sampleFits}
 use Rattle.layout.proofs.PartLaws.{parts-fit}
 use Rattle.elv_dcf7000.specs.Elv.{elvLayout}
 use Rattle.elv_dcf7000.proofs.fits.Statement.{statement}

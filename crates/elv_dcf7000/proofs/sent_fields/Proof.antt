@@ -3,7 +3,7 @@ use mir.Syntax.{w16}
 use mir.Val.{SFits}
 use mir.Facts.{toZ-ofZ}
 use Rattle.clock_time.specs.Lists.{ascii}
-use Rattle.layout.proofs.PairLaws.{numbers-fit}
+use Rattle.layout_words.proofs.PairLaws.{numbers-fit}
 use Rattle.elv_dcf7000.specs.Elv.{elvLayout, sentFields}
 use Rattle.elv_dcf7000.proofs.ElvLaws.{flags-read}
 use Rattle.elv_dcf7000.proofs.sent_fields.Statement.{statement}

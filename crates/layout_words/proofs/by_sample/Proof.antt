@@ -1,5 +1,5 @@
 use Rattle.clock_time.proofs.Tests.{tests}
-use Rattle.layout.specs.Words.{bySample}
+use Rattle.layout_words.specs.Words.{bySample}
 use Rattle.layout_words.proofs.by_sample.Statement.{statement}
 use Rattle.layout_words.proofs.by_sample.Tie as tie
 

@@ -2,9 +2,9 @@ use borrow.Author.Needs.{needs}
 use native.Mathlib.Omega.{arith}
 use mathlib.Core.List.{[], _∷_}
 use denote.Ref.{now}
-use Rattle.layout.specs.Words.{enough, sampleFits}
-use Rattle.layout.proofs.WordLaws.{bytes-of, bytes-enough}
-use Rattle.layout.proofs.SampleLaws.{test-word}
+use Rattle.layout_words.specs.Words.{enough, sampleFits}
+use Rattle.layout_words.proofs.WordLaws.{bytes-of, bytes-enough}
+use Rattle.layout_words.proofs.SampleLaws.{test-word}
 use Rattle.layout_words.proofs.eight_fit.Statement.{statement}
 use Rattle.layout_words.proofs.eight_fit.Tie as tie
 

@@ -2,9 +2,9 @@ use borrow.Author.Needs.{needs}
 use native.Mathlib.Omega.{arith}
 use mathlib.Core.List.{[], _∷_}
 use denote.Ref.{now}
-use Rattle.layout.specs.Words.{enough, flagsFit}
-use Rattle.layout.proofs.WordLaws.{bytes-of, bytes-enough}
-use Rattle.layout.proofs.FlagLaws.{flag-word}
+use Rattle.layout_words.specs.Words.{enough, flagsFit}
+use Rattle.layout_words.proofs.WordLaws.{bytes-of, bytes-enough}
+use Rattle.layout_words.proofs.FlagLaws.{flag-word}
 use Rattle.layout_words.proofs.flags_fit.Statement.{statement}
 use Rattle.layout_words.proofs.flags_fit.Tie as tie
 

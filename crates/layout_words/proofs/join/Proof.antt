@@ -1,6 +1,6 @@
 use borrow.Author.Needs.{needs}
 use native.Mathlib.Omega.{arith}
-use Rattle.layout.specs.Words.{word}
+use Rattle.layout_words.specs.Words.{word}
 use Rattle.layout_words.proofs.join.Statement.{statement}
 use Rattle.layout_words.proofs.join.Tie as tie
 

@@ -1,8 +1,8 @@
 use borrow.Author.Needs.{needs}
 use native.Mathlib.Omega.{arith}
 use lib.Bits.{and-le-r}
-use Rattle.layout.specs.Words.{word}
-use Rattle.layout.proofs.FlagLaws.{nonzero-word}
+use Rattle.layout_words.specs.Words.{word}
+use Rattle.layout_words.proofs.FlagLaws.{nonzero-word}
 use Rattle.layout_words.proofs.nonzero.Statement.{statement}
 use Rattle.layout_words.proofs.nonzero.Tie as tie
 

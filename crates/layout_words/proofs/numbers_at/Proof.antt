@@ -2,9 +2,9 @@ use borrow.Author.Needs.{needs}
 use native.Mathlib.Omega.{arith}
 use denote.Ref.{now}
 use lib.Bits.{bitAnd}
-use Rattle.layout.specs.Words.{enough, threeNumbers, numbersAt}
-use Rattle.layout.proofs.WordLaws.{bytes-enough}
-use Rattle.layout.proofs.PairLaws.{Pairs, pairs-of}
+use Rattle.layout_words.specs.Words.{enough, threeNumbers, numbersAt}
+use Rattle.layout_words.proofs.WordLaws.{bytes-enough}
+use Rattle.layout_words.proofs.PairLaws.{Pairs, pairs-of}
 use Rattle.layout_words.proofs.numbers_at.Statement.{statement}
 use Rattle.layout_words.proofs.numbers_at.Tie as tie
 

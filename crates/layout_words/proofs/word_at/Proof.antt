@@ -1,8 +1,8 @@
 use borrow.Author.Needs.{needs}
 use native.Mathlib.Omega.{arith}
 use denote.Ref.{now}
-use Rattle.layout.specs.Words.{word}
-use Rattle.layout.proofs.WordLaws.{no-bytes, enough-bytes, run-eight}
+use Rattle.layout_words.specs.Words.{word}
+use Rattle.layout_words.proofs.WordLaws.{no-bytes, enough-bytes, run-eight}
 use Rattle.layout_words.proofs.word_at.Statement.{statement}
 use Rattle.layout_words.proofs.word_at.Tie as tie
 

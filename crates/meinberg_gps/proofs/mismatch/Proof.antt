@@ -1,6 +1,6 @@
 use borrow.Author.Needs.{needs}
 use Rattle.clock_time.specs.Lists.{ascii}
-use Rattle.layout.proofs.PairLaws.{numbers-fit}
+use Rattle.layout_words.proofs.PairLaws.{numbers-fit}
 use Rattle.meinberg_gps.specs.Gps.{gpsLayout, leapMismatch}
 use Rattle.meinberg_gps.proofs.mismatch.Statement.{statement}
 use Rattle.meinberg_gps.proofs.mismatch.Tie as tie

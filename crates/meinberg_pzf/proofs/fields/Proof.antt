@@ -3,7 +3,7 @@ use mir.Syntax.{w16}
 use mir.Val.{SFits}
 use mir.Facts.{toZ-ofZ}
 use Rattle.clock_time.specs.Lists.{ascii}
-use Rattle.layout.proofs.PairLaws.{numbers-fit, low-digit}
+use Rattle.layout_words.proofs.PairLaws.{numbers-fit, low-digit}
 use Rattle.meinberg_pzf.specs.Pzf.{pzfLayout, pzfFields}
 use Rattle.meinberg_pzf.proofs.fields.Statement.{statement}
 use Rattle.meinberg_pzf.proofs.fields.Tie as tie

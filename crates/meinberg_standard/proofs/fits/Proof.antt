@@ -6,7 +6,7 @@ use denote.Ref.{now}
 use Rattle.clock_time.specs.Lists.{ascii}
 use Rattle.decimal.specs.Decimal.{isDigit}
 use Rattle.layout.specs.Layout.{allowed, fitsFrom}
-use Rattle.layout.specs.Words.{enough, samplePlace, sampleFits}
+use Rattle.layout_words.specs.Words.{enough, samplePlace, sampleFits}
 use Rattle.layout.proofs.PartLaws.{parts-fit}
 use Rattle.meinberg_standard.specs.Standard.{standardLayout}
 use Rattle.meinberg_standard.proofs.fits.Statement.{statement}

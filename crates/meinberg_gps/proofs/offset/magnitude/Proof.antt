@@ -2,7 +2,7 @@ use borrow.Author.Needs.{needs}
 use mathlib.Core.Path.{refl}
 use lib.Dec.{lit≤}
 use Rattle.clock_time.specs.Lists.{ascii}
-use Rattle.layout.proofs.PairLaws.{numbers-two}
+use Rattle.layout_words.proofs.PairLaws.{numbers-two}
 use Rattle.meinberg_gps.specs.Gps.{gpsLayout}
 use Rattle.meinberg_gps.proofs.offset.magnitude.Statement.{statement}
 use Rattle.meinberg_gps.proofs.offset.magnitude.Tie as tie

@@ -5,7 +5,7 @@ use mathlib.Core.List.{[], _∷_}
 use denote.Ref.{now}
 use Rattle.clock_time.specs.Lists.{ascii}
 use Rattle.layout.specs.Layout.{fitsFrom}
-use Rattle.layout.specs.Words.{enough, samplePlace, sampleFits, flagsFit}
+use Rattle.layout_words.specs.Words.{enough, samplePlace, sampleFits, flagsFit}
 use Rattle.layout.proofs.PartLaws.{parts-fit}
 use Rattle.meinberg_gps.specs.Gps.{gpsLayout}
 use Rattle.meinberg_gps.proofs.places.fits.Statement.{statement}

@@ -4,8 +4,8 @@ use mathlib.Core.Bool.{Bool, true, cond}
 use mathlib.Core.List.{List, [], _∷_}
 use lib.Dec.{leb, eqb}
 use lib.ListN.{length, getD}
 use Rattle.layout.specs.Layout.{digit, free, flagOf, fitsFrom}
-use Rattle.layout.specs.declared.words.ThreeNumbers.{ThreeNumbers}
+use Rattle.layout_words.specs.declared.ThreeNumbers.{ThreeNumbers}
 
 -- the number whose digits to the base 256 are these bytes, the lowest first
 unfoldable pub word : List ℕ → ℕ

@@ -8,7 +8,7 @@ use lib.Dec.{leb}
 use lib.ListN.{length, getD}
 use borrow.Author.Tests.{le-leb, lt-leb}
 use Rattle.clock_time.specs.Lists.{slice}
-use Rattle.layout.specs.Words.{enough}
+use Rattle.layout_words.specs.Words.{enough}
 
 -- each number is a byte
 abbrev pub Bytes : List ℕ → Type 0

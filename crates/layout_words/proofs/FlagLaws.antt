@@ -9,12 +9,13 @@ use lib.Bits.{bitAnd, bitOr, bitXor, and-block, and-le-r, and-zero-r, or-block, 
 use lib.Dec.{eqb, lit<}
 use lib.ListN.{length, getD}
 use Rattle.clock_time.specs.Lists.{slice}
 use Rattle.layout.specs.Layout.{allowed, places, flagOf, fitsFrom}
-use Rattle.layout.specs.Words.{word, nonzeroBytes, flagPlaces}
-use Rattle.layout.proofs.ByteLaws.{bitOf, bit-small, nonzero-bit, one-zero, flag-test, fixed-test}
+use Rattle.layout_words.specs.Words.{word, nonzeroBytes, flagPlaces}
+use Rattle.layout_words.proofs.ByteLaws.{bitOf, bit-small, nonzero-bit, one-zero}
+use Rattle.layout.proofs.LayoutLaws.{flag-test, fixed-test}
 use Rattle.layout.proofs.PartLaws.{fits-and}
 use Rattle.bits.proofs.ByteLaws.{zero-block}
-use Rattle.layout.proofs.WordLaws.{Bytes}
+use Rattle.layout_words.proofs.WordLaws.{Bytes}
 
 -- ---- the bytes that are not 0
 -- the code's sum of a word

@@ -9,8 +9,9 @@ use lib.Bits.{bitAnd, bitOr, bitXor, and-zero-r, and-le-l, and-le-r, xor-add-and
 use borrow.Author.Tests.{eq-eqb, ne-eqb, eqb-true, lt-ltb, le-ltb}
 use Rattle.clock_time.proofs.Tests.{below, below-at}
 use Rattle.decimal.specs.Decimal.{isDigit}
 use Rattle.layout.specs.Layout.{allowed, flagOf}
-use Rattle.layout.specs.Words.{samplePlace, bySample}
+use Rattle.layout_words.specs.Words.{samplePlace, bySample}
+use Rattle.layout.proofs.LayoutLaws.{fixed-test}
 
 -- two tests that agree on all bytes, by computation
 same-test : (f g : ℕ → Bool) → T (below 256 (λ n. Bool·beq (f n) (g n))) → (n : ℕ) → n < 256 → f n ≡ g n
@@ -29,10 +30,6 @@ same-xor b p = elim (ℕ-discrete b p) [
       λ z. d (omega (arith, z, xor-add-and b p, and-le-l b p, and-le-r b p)) in
       ne-eqb (bitXor b p) 0 e ∙ rw (ne-eqb b p d)
 ]
-
-pub fixed-test : (p b : ℕ) → p < 256 → allowed p b ≡ eqb b p
-unfolding allowed
-fixed-test p b h = rw (lt-ltb p 256 h)
 
 -- ---- the byte of a sample
 -- what the code adds to a difference from it, and the bits that it looks at
@@ -116,15 +113,3 @@ one-zero b p q = rw (same-xor b p, same-xor b q) (go (eqb b p) (eqb b q))
     go true u = refl
     go false true = refl
     go false false = refl
-
-pub flag-test : (a b : ℕ) → a < 256 → allowed (flagOf a) b ≡ (eqb b 32 || eqb b a)
-unfolding allowed
-flag-test a b h =
-    let e : (512 + a) % 256 ≡ a = omega arith in
-    rw (
-      le-ltb (512 + a) 256 (omega arith),
-      ne-eqb (512 + a) 256 (λ z. omega arith),
-      ne-eqb (512 + a) 257 (λ z. omega arith),
-      lt-ltb (512 + a) 65536 (omega arith),
-      e,
-    )

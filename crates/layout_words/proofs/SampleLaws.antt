@@ -10,12 +10,12 @@ use lib.Bits.{bitAnd, bitOr, bitXor, or-block, or-lt, xor-block, xor-lt}
 use lib.Dec.{eqb, lit<}
 use lib.ListN.{length, getD}
 use Rattle.clock_time.specs.Lists.{slice}
 use Rattle.layout.specs.Layout.{allowed, fitsFrom}
-use Rattle.layout.specs.Words.{word, eachBySample, samplePlace, samplePlaces}
-use Rattle.layout.proofs.ByteLaws.{moreOf, highOf, clear, sample-test, high-small, no-carry}
+use Rattle.layout_words.specs.Words.{word, eachBySample, samplePlace, samplePlaces}
+use Rattle.layout_words.proofs.ByteLaws.{moreOf, highOf, clear, sample-test, high-small, no-carry}
 use Rattle.layout.proofs.PartLaws.{fits-and}
 use Rattle.bits.proofs.ByteLaws.{zero-block}
-use Rattle.layout.proofs.WordLaws.{Bytes}
+use Rattle.layout_words.proofs.WordLaws.{Bytes}
 
 -- the numbers for the bytes of a sample
 abbrev pub mores : List ℕ → List ℕ

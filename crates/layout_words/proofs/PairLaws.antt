@@ -12,10 +12,10 @@ use Rattle.clock_time.proofs.Tests.{both}
 use Rattle.clock_time.specs.Lists.{slice}
 use Rattle.decimal.specs.Decimal.{valueFrom}
 use Rattle.decimal.proofs.DecimalLaws.{digit-range}
 use Rattle.layout.specs.Layout.{digit, places, FitsLayout, number}
-use Rattle.layout.specs.Words.{word, lowPair, threeNumbers, numbersAt}
+use Rattle.layout_words.specs.Words.{word, lowPair, threeNumbers, numbersAt}
 use Rattle.layout.proofs.LayoutLaws.{allDigits, place-within, digit-place}
-use Rattle.layout.proofs.WordLaws.{Bytes, enough-bytes}
+use Rattle.layout_words.proofs.WordLaws.{Bytes, enough-bytes}
 
 -- ---- the low halves of bytes
 abbrev halves : (n at : ℕ) (s : List ℕ) → List ℕ

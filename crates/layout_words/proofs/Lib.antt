@@ -1,0 +1,6 @@
+-- Laws of the definitions.
+pub mod ByteLaws
+pub mod WordLaws
+pub mod SampleLaws
+pub mod FlagLaws
+pub mod PairLaws

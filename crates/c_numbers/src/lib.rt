@@ -1,8 +1,8 @@
 // Readings as numbers in lent memory.
 use clock_time::ClockTime;
+use clock_time::ReadAnswer;
 use dcf77::MinuteAnswer;
 use dcf77::MinuteTime;
-use layout::ReadAnswer;
 use meinberg_gps::GpsAnswer;
 use meinberg_gps::GpsTime;
 ghost use mathlib.Core.Path.{_≡_};
@@ -10,10 +10,10 @@ ghost use mathlib.Core.List.{[], _∷_, _++_};
 ghost use Prim.Native.Nat.{_≤_};
 ghost use lib.IntN.{pos};
 ghost use lib.ListN.{length, take, drop};
-ghost use Rattle.layout.specs.Text.{readAnswer};
 ghost use Rattle.meinberg_gps.specs.Gps.{gpsAnswer};
 ghost use Rattle.dcf77.specs.Minute.{minuteAnswer};
 ghost use Rattle.clock_time.specs.Called.{called, calledMemory};
+ghost use Rattle.clock_time.specs.Reading.{readAnswer};
 ghost use Rattle.c_numbers.specs.Numbers.{flagNumber, timeNumbers, gpsNumbers, minuteNumbers, putNumbers};
 ghost use Rattle.c_numbers.specs.Numbers.{putAnswer};
 

@@ -1,6 +1,6 @@
 // The Unix time of a reading's numbers.
 use calendar::unix_time::UnixTime;
-use layout::ReadAnswer;
+use clock_time::ReadAnswer;
 ghost use mathlib.Core.Path.{_≡_};
 ghost use Rattle.calendar.specs.UnixTime.{unixTimeAnswer};
 ghost use Rattle.clock_time.specs.Called.{called, calledAnswer};

@@ -4,3 +4,4 @@ pub mod feed;
 pub mod instant;
 pub mod minutes;
 pub mod strings;
+mod written;

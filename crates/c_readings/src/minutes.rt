@@ -28,5 +28,5 @@ pub extern "C" fn radio_clock_write_minute(
         ≡ calledBoth (now (written .entry)) (writeMinuteFrom (now (fields .entry)) (now (out .entry)))
         ⌝ }
 {
-    clock_time::put_written(c_writer::write_marks(fields, out), written)
+    crate::written::put_written(c_writer::write_marks(fields, out), written)
 }

@@ -69,5 +69,5 @@ pub extern "C" fn radio_clock_write(
         ≡ calledBoth (now (written .entry)) (writeFrom kind (now (fields .entry)) (now (out .entry)))
         ⌝ }
 {
-    clock_time::put_written(c_writer::write_string(kind, fields, out), written)
+    crate::written::put_written(c_writer::write_string(kind, fields, out), written)
 }

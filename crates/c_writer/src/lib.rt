@@ -1,9 +1,9 @@
 // The numbers of a reading as a string of a kind, or as a run of marks.
 use clock_time::ClockTime;
 use clock_time::Error;
+use clock_time::ReadAnswer;
 use clock_time::WriteAnswer;
 use dcf77::MinuteAnswer;
-use layout::ReadAnswer;
 use meinberg_gps::GpsAnswer;
 ghost use mathlib.Core.Path.{_≡_};
 ghost use Rattle.clock_time.specs.Writing.{written};

@@ -6,6 +6,7 @@ use mathlib.Core.Bool.{Bool, true, false, cond, _&&_, _||_}
 use lib.Dec.{leb, ltb, eqb}
 use lib.IntN.{pos}
 use borrow.Author.Tests.{leb-true, ltb-true, eqb-true}
+use Rattle.clock_time.specs.Zone.{cetOffset}
 use Rattle.clock_time.specs.declared.ClockTime.{ClockTime}
 use Rattle.clock_time.proofs.Tests.{both}
 use Rattle.gregorian.specs.Date.{dateExists, fullYear, supportedDate}
@@ -68,7 +69,7 @@ unfolding fullYear
 full-year-last-two y first last = omega arith
 
 -- the offsets of receivers that know UTC, CET and CEST
-pub zone-in-range : (utc summer : Bool) → offsetInRange (cond utc (pos 0) (cond summer (pos 120) (pos 60))) ≡ true
+pub zone-in-range : (utc summer : Bool) → offsetInRange (cond utc (pos 0) (cetOffset summer)) ≡ true
 unfolding offsetInRange
 zone-in-range true summer = refl
 zone-in-range false true = refl

@@ -1,10 +1,11 @@
 -- What is known of a minute whose fields pass the writer's test.
 use Prim.Native.Nat.{ℕ, _≤_, _<_}
 use mathlib.Core.Path.{_≡_, ap}
-use mathlib.Core.Bool.{Bool, true, false, cond, not, _&&_, false≢true}
+use mathlib.Core.Bool.{Bool, true, false, not, _&&_, false≢true}
 use lib.Dec.{ltb, eqb}
 use lib.IntN.{ℤ, pos, negsuc}
 use borrow.Author.Tests.{not-true, eqb-true, ltb-true}
+use Rattle.clock_time.specs.Zone.{cetOffset}
 use Rattle.clock_time.specs.Same.{eqℤ}
 use Rattle.clock_time.proofs.Tests.{both}
 use Rattle.gregorian.specs.Date.{supportedDate}
@@ -18,15 +19,15 @@ unfolding eqℤ
 offset-told (pos m) n h = ap pos (eqb-true m n h)
 offset-told (negsuc m) n h = absurd (false≢true h)
 
-zone-told : (z : ℤ) (summer : Bool) → eqℤ z (cond summer (pos 120) (pos 60)) ≡ true
-    → z ≡ cond summer (pos 120) (pos 60)
+zone-told : (z : ℤ) (summer : Bool) → eqℤ z (cetOffset summer) ≡ true
+    → z ≡ cetOffset summer
 zone-told z true h = offset-told z 120 h
 zone-told z false h = offset-told z 60 h
 
 -- a minute whose fields pass
 pub record Fits (a : MinuteTime) : Type 0 where
   pub supported-date : supportedDate (a .time .year) (a .time .month) (a .time .day) ≡ true
-  pub zone : a .time .«utc_offset» ≡ cond (a .time .«summer_time») (pos 120) (pos 60)
+  pub zone : a .time .«utc_offset» ≡ cetOffset (a .time .«summer_time»)
   pub weekday-least : 1 ≤ a .time .weekday
   pub weekday-most : a .time .weekday ≤ 7
   pub hour : a .time .hour < 24
@@ -41,7 +42,7 @@ pub fits : (a : MinuteTime) → minuteRepresentable a ≡ true → Fits a
 unfolding minuteRepresentable fieldsRepresentable
 fits a h =
     let t = a .time in
-    let zone = eqℤ (t .«utc_offset») (cond (t .«summer_time») (pos 120) (pos 60)) in
+    let zone = eqℤ (t .«utc_offset») (cetOffset (t .«summer_time»)) in
     let k = both _ (isRepresentable t) h in
     let z = both (fieldsRepresentable a) zone (k .0) in
     let r = represented t (k .1) in

@@ -7,9 +7,9 @@ use mathlib.Core.Logic.{_⊎_, inl, inr, ⊎-elim}
 use mathlib.Core.Bool.{Bool, true, false, cond, not, _&&_, and-assoc}
 use mathlib.Core.List.{List, [], _∷_, _++_}
 use lib.Dec.{leb, ltb, eqb, lit≤}
-use lib.IntN.{pos}
 use lib.ListN.{length, getD, take, drop}
 use borrow.Author.Tests.{not-false, eqb-true, lt-ltb}
+use Rattle.clock_time.specs.Zone.{cetOffset}
 use Rattle.clock_time.proofs.Tests.{both}
 use Rattle.clock_time.specs.Lists.{sum, slice}
 use Rattle.gregorian.specs.Date.{dateExists, supportedDate, fullYear}
@@ -138,7 +138,7 @@ module _ (a : MinuteTime) (w : Fits a) where
   pub fields-text : minuteFields (minuteText a) ≡ a
   unfolding minuteFields announced
   fields-text =
-      let zone = ap (λ (s : Bool). cond s (pos 120) (pos 60)) (flags-text .2) ∙ sym (w .zone) in
+      let zone = ap cetOffset (flags-text .2) ∙ sym (w .zone) in
       λ i.
       record {
         time =

@@ -2,12 +2,12 @@
 use Prim.Native.Nat.{ℕ, _<_}
 use mathlib.Core.Path.{_≡_, refl, sym, _∙_}
 use mathlib.Core.Logic.{_↔_}
-use mathlib.Core.Bool.{Bool, true, false, cond, _&&_, false≢true}
+use mathlib.Core.Bool.{Bool, true, false, _&&_, false≢true}
 use mathlib.Core.List.{List}
 use lib.Dec.{eqb}
-use lib.IntN.{pos}
 use lib.ListN.{length}
 use borrow.Author.Tests.{eq-eqb, lt-ltb}
+use Rattle.clock_time.specs.Zone.{cetOffset}
 use Rattle.clock_time.specs.Errors.{Answer, accepted, refused}
 use Rattle.clock_time.specs.Same.{eqℤ}
 use Rattle.clock_time.specs.Writing.{isAccepted, readsBack}
@@ -26,7 +26,7 @@ use Rattle.dcf77.proofs.TextLaws.{fields-text, text-keeps}
 
 -- ---- what is read passes
 zone-passes : (summer : Bool)
-    → eqℤ (cond summer (pos 120) (pos 60)) (cond summer (pos 120) (pos 60)) ≡ true
+    → eqℤ (cetOffset summer) (cetOffset summer) ≡ true
 unfolding eqℤ
 zone-passes true = refl
 zone-passes false = refl

@@ -4,7 +4,7 @@ use mathlib.Core.Bool.{Bool, false, cond, not, _&&_, _||_, Bool·beq}
 use mathlib.Core.List.{List, [], _∷_, _++_}
 use lib.Dec.{leb, eqb}
 use lib.ListN.{length, getD}
-use lib.IntN.{pos}
+use Rattle.clock_time.specs.Zone.{cetOffset}
 use Rattle.clock_time.specs.Errors.{Answer, accepted, refused, errorNumber, Check, given, checked}
 use Rattle.clock_time.specs.Same.{sameTime}
 use Rattle.clock_time.specs.Writing.{Written, writeBack}
@@ -33,7 +33,7 @@ announced m =
       hour = twoDigits 29 2 m;
       minute = twoDigits 21 3 m;
       second = 0;
-      «utc_offset» = cond (long 17 m) (pos 120) (pos 60);
+      «utc_offset» = cetOffset (long 17 m);
       unsynchronised = false;
       unverified = false;
       «summer_time» = long 17 m;

@@ -1,10 +1,10 @@
 -- Which minutes have a run that is read as them, and marks as a number.
 use Prim.Native.Nat.{ℕ, _<_, _^_}
 use mathlib.Core.Path.{_≡_}
-use mathlib.Core.Bool.{Bool, cond, not, _&&_}
+use mathlib.Core.Bool.{Bool, not, _&&_}
 use mathlib.Core.List.{List}
 use lib.Dec.{ltb, eqb}
-use lib.IntN.{pos}
+use Rattle.clock_time.specs.Zone.{cetOffset}
 use Rattle.clock_time.specs.Same.{eqℤ}
 use Rattle.calendar.specs.Representable.{isRepresentable}
 use Rattle.dcf77.specs.Marks.{bits}
@@ -29,5 +29,5 @@ unfoldable pub minuteRepresentable : MinuteTime → Bool
 minuteRepresentable a =
     let t = a .time in
     fieldsRepresentable a
-    && eqℤ (t .«utc_offset») (cond (t .«summer_time») (pos 120) (pos 60))
+    && eqℤ (t .«utc_offset») (cetOffset (t .«summer_time»))
     && isRepresentable t

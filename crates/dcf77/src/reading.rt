@@ -6,12 +6,12 @@ use clock_time::ClockTime;
 use clock_time::Error;
 use clock_time::MinuteDetail;
 ghost use mathlib.Core.Path.{_≡_};
-ghost use mathlib.Core.Bool.{cond, not, _&&_};
+ghost use mathlib.Core.Bool.{not, _&&_};
 ghost use mathlib.Core.List.{_++_};
 ghost use Prim.Native.Nat.{_/_, _%_, _≤_};
 ghost use lib.Dec.{leb, eqb};
 ghost use lib.ListN.{length};
-ghost use lib.IntN.{pos};
+ghost use Rattle.clock_time.specs.Zone.{cetOffset};
 ghost use Rattle.dcf77.specs.Marks.{long, short};
 ghost use Rattle.clock_time.specs.Errors.{errorNumber};
 ghost use Rattle.dcf77.specs.Minute.{announced, minuteFields};
@@ -20,7 +20,7 @@ ghost use Rattle.dcf77.specs.Numbers.{timeChecks};
 
 // The offset of the announced time.
 pub(crate) fn zone_offset(summer: bool) -> i16
-    ensures { λ r. ⌜ r ≡ cond summer (pos 120) (pos 60) ⌝ }
+    ensures { λ r. ⌜ r ≡ cetOffset summer ⌝ }
 {
     if summer {
         return 120;

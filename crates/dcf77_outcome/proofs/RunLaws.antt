@@ -1,9 +1,10 @@
 -- What an accepted minute's number is made of: a date that has a day number, and an offset of 120 in summer.
 use Prim.Native.Nat.{ℕ}
 use mathlib.Core.Path.{_≡_, refl, _∙_}
-use mathlib.Core.Bool.{Bool, true, false, cond}
+use mathlib.Core.Bool.{Bool, true, false}
 use mathlib.Core.List.{List}
 use lib.IntN.{pos}
+use Rattle.clock_time.specs.Zone.{cetOffset}
 use Rattle.clock_time.specs.Errors.{accepted}
 use Rattle.clock_time.specs.Same.{eqℤ}
 use Rattle.gregorian.specs.Date.{supportedDate}
@@ -21,7 +22,7 @@ accepted-known m a h =
     let w = read-keeps m a h in
     rw (w .1) (supported-exists (twoDigits 50 4 m) _ _ ∙ date-exactly _ _ _ .1 (w .0 .1 .date))
 
-zone-summer : (summer : Bool) → eqℤ (cond summer (pos 120) (pos 60)) (pos 120) ≡ summer
+zone-summer : (summer : Bool) → eqℤ (cetOffset summer) (pos 120) ≡ summer
 unfolding eqℤ
 zone-summer true = refl
 zone-summer false = refl

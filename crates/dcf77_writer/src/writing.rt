@@ -3,10 +3,10 @@
 use clock_time::WriteAnswer;
 use dcf77::MinuteTime;
 ghost use mathlib.Core.Path.{_≡_};
-ghost use mathlib.Core.Bool.{cond, not};
+ghost use mathlib.Core.Bool.{not};
 ghost use mathlib.Core.List.{[], _∷_, _++_};
 ghost use Prim.Native.Nat.{_/_, _%_};
-ghost use lib.IntN.{pos};
+ghost use Rattle.clock_time.specs.Zone.{cetOffset};
 ghost use Rattle.clock_time.specs.Same.{eqℤ};
 ghost use Rattle.clock_time.specs.Writing.{written};
 ghost use Rattle.dcf77.specs.Marks.{bits};
@@ -99,7 +99,7 @@ pub(crate) fn sixty_marks(a: MinuteTime) -> [u8; 60]
 
 // True where the offset is that of the zone.
 fn is_zone_offset(offset: i16, summer: bool) -> bool
-    ensures { λ r. ⌜ r ≡ eqℤ offset (cond summer (pos 120) (pos 60)) ⌝ }
+    ensures { λ r. ⌜ r ≡ eqℤ offset (cetOffset summer) ⌝ }
 {
     if summer {
         return offset == 120;

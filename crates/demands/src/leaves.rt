@@ -1,10 +1,10 @@
 // Functions that no user of the library calls, but that refuse: their refusals in their order, and their answer by its
 // definition.
 use clock_time::ClockTime;
+use clock_time::ReadAnswer;
 use clock_time::WriteAnswer;
 use dcf77::MinuteAnswer;
 use decimal::DigitsRead;
-use layout::ReadAnswer;
 use listing_lines::Totals;
 use meinberg_gps::GpsAnswer;
 use meinberg_gps_position::PositionAnswer;
@@ -16,10 +16,11 @@ ghost use lib.Dec.{leb, ltb};
 ghost use lib.ListN.{length};
 ghost use Rattle.clock_time.specs.Errors.{given, checked};
 ghost use Rattle.clock_time.specs.Writing.{written};
+ghost use Rattle.clock_time.specs.Reading.{readAnswer};
 ghost use Rattle.calendar.specs.Weekday.{withWeekday};
 ghost use Rattle.calendar.specs.UnixTime.{isReading};
 ghost use Rattle.decimal.specs.Decimal.{firstNonDigit, digits, digitsAnswer, readDigits, writeDigits};
-ghost use Rattle.layout.specs.Text.{supportedDay, clockChecks, readAnswer};
+ghost use Rattle.layout.specs.Text.{supportedDay, clockChecks};
 ghost use Rattle.meinberg_gps_position.specs.Position.{positionAnswer};
 ghost use Rattle.meinberg_gps_position.specs.Rules.{PositionRules, SaysPosition, positionLines};
 ghost use Rattle.meinberg_gps.specs.Gps.{gpsAnswer};

@@ -1,7 +1,7 @@
 // Time strings: telling the kind, reading and writing.
 use clock_time::ClockTime;
+use clock_time::ReadAnswer;
 use clock_time::WriteAnswer;
-use layout::ReadAnswer;
 use meinberg_gps::GpsAnswer;
 use meinberg_gps::GpsTime;
 use time_string::Kind;
@@ -9,7 +9,7 @@ use time_string::KindAnswer;
 use time_string::TimeAnswer;
 ghost use mathlib.Core.List.{[], _∷_};
 ghost use Rattle.clock_time.specs.Writing.{written};
-ghost use Rattle.layout.specs.Text.{readAnswer};
+ghost use Rattle.clock_time.specs.Reading.{readAnswer};
 ghost use Rattle.meinberg_standard.specs.Accepts.{AcceptsStandard};
 ghost use Rattle.meinberg_standard.specs.Lines.{standardLines};
 ghost use Rattle.meinberg_pzf.specs.Accepts.{AcceptsPzf};

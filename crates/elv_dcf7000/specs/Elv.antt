@@ -3,7 +3,8 @@ use Prim.Native.Nat.{ℕ, _+_, _/_, _%_}
 use mathlib.Core.Bool.{Bool, false, cond, not, _&&_}
 use mathlib.Core.List.{List, _++_}
 use lib.Dec.{eqb, ltb}
-use lib.IntN.{ℤ, pos}
+use lib.IntN.{ℤ}
+use Rattle.clock_time.specs.Zone.{cetOffset}
 use Rattle.clock_time.specs.Errors.{Answer}
 use Rattle.clock_time.specs.Same.{eqℤ}
 use Rattle.clock_time.specs.Writing.{Written}
@@ -45,7 +46,7 @@ unsynchronisedIn flags = eqb (flags / 4 % 2) 1
 
 -- "1 summer (offset 120, else 60)" (01, Meinberg and ELV strings)
 unfoldable pub elvOffset : Bool → ℤ
-elvOffset summer = cond summer (pos 120) (pos 60)
+elvOffset summer = cetOffset summer
 
 -- the fields that are sent, with 0 for a weekday
 unfoldable pub sentFields : List ℕ → ClockTime

@@ -1,13 +1,13 @@
 // The string of an ELV DCF7000 clock.
 use clock_time::ClockTime;
 use clock_time::Error;
-use layout::ReadAnswer;
+use clock_time::ReadAnswer;
 ghost use mathlib.Core.Path.{_≡_};
 ghost use mathlib.Core.Bool.{true, false};
 ghost use lib.ListN.{length};
 ghost use Rattle.clock_time.specs.Errors.{errorNumber};
+ghost use Rattle.clock_time.specs.Reading.{readAnswer};
 ghost use Rattle.layout.specs.Layout.{FitsLayout, fitsFrom, layoutError};
-ghost use Rattle.layout.specs.Text.{readAnswer};
 ghost use Rattle.elv_dcf7000.specs.Elv.{elvLayout, elvFlagFault, elvOffset, sentFields, readElv};
 
 // The layout, as the definition `elvLayout` has it.

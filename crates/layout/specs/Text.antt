@@ -5,7 +5,7 @@ use mathlib.Core.Bool.{Bool, false, cond, not, _&&_, _||_}
 use mathlib.Core.List.{List, [], _∷_, _++_}
 use lib.Dec.{leb, eqb}
 use lib.ListN.{length}
-use Rattle.clock_time.specs.Errors.{Answer, accepted, refused, errorNumber, Check, given, checked}
+use Rattle.clock_time.specs.Errors.{Answer, Check, given, checked}
 use Rattle.clock_time.specs.Same.{sameTime}
 use Rattle.clock_time.specs.Writing.{Written, writeBack}
 use Rattle.clock_time.specs.declared.ClockTime.{ClockTime}
@@ -13,8 +13,6 @@ use Rattle.gregorian.specs.Date.{supportedDate}
 use Rattle.calendar.specs.TimeOfDay.{timeExists}
 use Rattle.decimal.specs.Decimal.{digits}
 use Rattle.layout.specs.Layout.{found}
-use Rattle.layout.specs.declared.ReadAnswer.{ReadAnswer}
-use Rattle.layout.specs.declared.ReadAnswer.the-variants.{Read, Refused}
 
 -- A format: its layout, a fault of its flags given with 4, its own checks before 5, the dates that it can give, a fault
 -- given with 6, and what its fields say.
@@ -89,8 +87,3 @@ unfoldable pub clockDigits : ClockTime → List ℕ
 clockDigits t =
     digits 2 (t .year) ++ digits 2 (t .month) ++ digits 2 (t .day)
     ++ digits 2 (t .hour) ++ digits 2 (t .minute) ++ digits 2 (t .second)
-
--- a reader's answer: a clock time, or a refusal with the error's number
-abbrev pub readAnswer : ReadAnswer → Answer ClockTime
-readAnswer (Read t) = accepted t
-readAnswer (Refused e) = refused (errorNumber e)

@@ -2,19 +2,15 @@
 // format shares.
 use clock_time::ClockTime;
 use clock_time::Error;
+use clock_time::ReadAnswer;
 ghost use mathlib.Core.Path.{_≡_};
 ghost use lib.ListN.{length};
 ghost use Rattle.clock_time.specs.Errors.{errorNumber, checked};
+ghost use Rattle.clock_time.specs.Reading.{readAnswer};
 ghost use Rattle.layout.specs.Layout.{allowed, errorAt, offence, first, layoutError};
-ghost use Rattle.layout.specs.Text.{supportedDay, clockChecks, readAnswer, clockDigits};
+ghost use Rattle.layout.specs.Text.{supportedDay, clockChecks, clockDigits};
 ghost use mathlib.Core.Bool.{cond, false};
 ghost use Rattle.calendar.specs.Weekday.{withWeekday};
-
-// The clock time that was read, or the error.
-pub enum ReadAnswer {
-    Read(ClockTime),
-    Refused(Error),
-}
 
 fn is_allowed(p: u32, b: u8) -> bool
     ensures { λ r. ⌜ r ≡ allowed p b ⌝ }

@@ -6,10 +6,10 @@ use mathlib.Core.Path.{_≡_, refl, sym, ap, _∙_}
 use mathlib.Core.Bool.{Bool, true, false, cond, _||_, Bool·beq}
 use lib.Dec.{T, eqb, ltb, ltb→lt, eqb→eq, lit<}
 use lib.Bits.{bitAnd, bitOr, bitXor, and-zero-r, and-le-l, and-le-r, xor-add-and, xor-lt, xor-self}
-use borrow.Author.Tests.{eq-eqb, ne-eqb, eqb-true, lt-ltb, le-ltb}
+use borrow.Author.Tests.{eq-eqb, ne-eqb, eqb-true}
 use Rattle.clock_time.proofs.Tests.{below, below-at}
 use Rattle.decimal.specs.Decimal.{isDigit}
-use Rattle.layout.specs.Layout.{allowed, flagOf}
+use Rattle.layout.specs.Layout.{allowed}
 use Rattle.layout_words.specs.Words.{samplePlace, bySample}
 use Rattle.layout.proofs.LayoutLaws.{fixed-test}
 

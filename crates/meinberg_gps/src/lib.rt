@@ -2,7 +2,7 @@
 use clock_time::ClockTime;
 use clock_time::Error;
 use clock_time::Position;
-use layout::ReadAnswer;
+use clock_time::ReadAnswer;
 use meinberg_gps_position::PositionAnswer;
 ghost use mathlib.Core.Path.{_≡_};
 ghost use lib.ListN.{length};

@@ -3,6 +3,7 @@ use Prim.Native.Nat.{ℕ}
 use mathlib.Core.Bool.{Bool, false, cond}
 use mathlib.Core.List.{List, _∷_, _++_}
 use lib.IntN.{ℤ, pos}
+use Rattle.clock_time.specs.Zone.{cetOffset}
 use Rattle.clock_time.specs.Errors.{Answer}
 use Rattle.clock_time.specs.Same.{eqℤ}
 use Rattle.clock_time.specs.Writing.{Written}
@@ -24,7 +25,7 @@ pzfLayout =
 
 -- "t `U` gives offset 0 whatever x is; otherwise x `S` gives 120 and blank 60." (01, Meinberg and ELV strings)
 unfoldable pub pzfOffset : Bool → Bool → ℤ
-pzfOffset utc summer = cond utc (pos 0) (cond summer (pos 120) (pos 60))
+pzfOffset utc summer = cond utc (pos 0) (cetOffset summer)
 
 -- "Flags at 24..30: t `U`, u `#`, v `*`, x `S`, y `!`, z `A`, a `R`, or blank. [..] x is the summer flag in each case."
 -- (01, Meinberg and ELV strings): in turn UTC, unsynchronised, unverified, summer time, change coming, leap second

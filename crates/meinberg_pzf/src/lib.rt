@@ -1,13 +1,13 @@
 // The Meinberg PZF string.
 use clock_time::ClockTime;
 use clock_time::Error;
-use layout::ReadAnswer;
+use clock_time::ReadAnswer;
 ghost use mathlib.Core.Path.{_≡_};
 ghost use mathlib.Core.Bool.{true};
 ghost use lib.ListN.{length};
 ghost use Rattle.clock_time.specs.Errors.{errorNumber};
+ghost use Rattle.clock_time.specs.Reading.{readAnswer};
 ghost use Rattle.layout.specs.Layout.{FitsLayout, fitsFrom, layoutError};
-ghost use Rattle.layout.specs.Text.{readAnswer};
 ghost use Rattle.meinberg_pzf.specs.Pzf.{pzfLayout, pzfOffset, pzfFields, readPzf};
 
 // The layout, as the definition `pzfLayout` has it.

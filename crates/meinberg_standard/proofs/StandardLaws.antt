@@ -9,6 +9,7 @@ use lib.Dec.{eqb, lit<}
 use lib.ListN.{getD}
 use lib.IntN.{ℤ, pos}
 use borrow.Author.Tests.{eqb-true, not-true}
+use Rattle.clock_time.specs.Zone.{cetOffset}
 use Rattle.clock_time.specs.Same.{eqℤ, sameFields, sameTime}
 use Rattle.clock_time.specs.declared.ClockTime.{ClockTime}
 use Rattle.clock_time.proofs.SameLaws.{eqℤ-refl, eqℤ-true, eqb-refl, beq-refl, sameTime-true}
@@ -79,8 +80,8 @@ unfolding standardZone zoneLetter eqℤ
 zone-representable x = go (eqb x (code "U")) (eqb x (code "S")) refl refl
   where
     go : (u v : Bool) → eqb x (code "U") ≡ u → eqb x (code "S") ≡ v
-        → eqℤ (standardZone (zoneLetter (cond u (pos 0) (cond v (pos 120) (pos 60))) v))
-        (cond u (pos 0) (cond v (pos 120) (pos 60))) ≡ true
+        → eqℤ (standardZone (zoneLetter (cond u (pos 0) (cetOffset v)) v))
+        (cond u (pos 0) (cetOffset v)) ≡ true
     go true true e f =
         let z : _≡_ {A = ℕ} 85 83 = sym (eqb-true x 85 e) ∙ eqb-true x 83 f in
         absurd (omega arith)

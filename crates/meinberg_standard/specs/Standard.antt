@@ -6,6 +6,7 @@ use mathlib.Core.List.{List, _∷_, _++_}
 use lib.Dec.{eqb}
 use lib.ListN.{getD}
 use lib.IntN.{ℤ, pos}
+use Rattle.clock_time.specs.Zone.{cetOffset}
 use Rattle.clock_time.specs.Errors.{Answer}
 use Rattle.clock_time.specs.Same.{eqℤ}
 use Rattle.clock_time.specs.Writing.{Written}
@@ -27,7 +28,7 @@ standardLayout =
 
 -- "x `U` (offset 0), `S` (offset 120, summer time) or blank (offset 60)" (01, Meinberg and ELV strings)
 unfoldable pub standardZone : ℕ → ℤ
-standardZone x = cond (eqb x (code "U")) (pos 0) (cond (eqb x (code "S")) (pos 120) (pos 60))
+standardZone x = cond (eqb x (code "U")) (pos 0) (cetOffset (eqb x (code "S")))
 
 -- "Flags at 27..30. u is `#` or blank (unsynchronised); v `*` or blank (unverified); x [..]; y `!` (change coming), `A`
 -- (leap second coming) or blank. [..] 002 counts Sunday as 0; 1..7 holds." (01, Meinberg and ELV strings)

@@ -1,12 +1,12 @@
 // Time strings of any kind: telling the kind of a string, and reading a string of a named kind.
 use clock_time::ClockTime;
 use clock_time::Error;
-use layout::ReadAnswer;
+use clock_time::ReadAnswer;
 use meinberg_gps::GpsAnswer;
 use meinberg_gps::GpsTime;
 ghost use mathlib.Core.Path.{_≡_};
+ghost use Rattle.clock_time.specs.Reading.{readAnswer};
 ghost use Rattle.time_string.specs.Kind.{kindOf, kindAnswer, timeOnly, located, readAs, timeAnswer};
-ghost use Rattle.layout.specs.Text.{readAnswer};
 ghost use Rattle.meinberg_gps.specs.Gps.{gpsAnswer};
 
 // The kinds of time strings.

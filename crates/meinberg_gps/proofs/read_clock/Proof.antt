@@ -1,7 +1,7 @@
 use borrow.Author.Needs.{needs}
 use mathlib.Core.Path.{_≡_}
 use denote.Ref.{now}
-use Rattle.layout.specs.Text.{readAnswer}
+use Rattle.clock_time.specs.Reading.{readAnswer}
 use Rattle.meinberg_gps.specs.Gps.{readClock}
 use Rattle.meinberg_gps.proofs.ReadLaws.{placed, read-clock}
 use Rattle.meinberg_gps.proofs.read_clock.Statement.{statement}

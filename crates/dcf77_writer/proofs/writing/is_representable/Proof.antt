@@ -1,10 +1,10 @@
 use borrow.Author.Needs.{needs, sfits-of}
 use mathlib.Core.Path.{_≡_}
-use mathlib.Core.Bool.{cond, _&&_}
-use lib.IntN.{pos}
+use mathlib.Core.Bool.{_&&_}
 use mir.Syntax.{w16}
 use mir.Val.{SFits}
 use mir.Facts.{toZ-ofZ}
+use Rattle.clock_time.specs.Zone.{cetOffset}
 use Rattle.clock_time.specs.Same.{eqℤ}
 use Rattle.dcf77.specs.Writable.{fieldsRepresentable, minuteRepresentable}
 use Rattle.dcf77_writer.proofs.writing.is_representable.Statement.{statement}
@@ -15,7 +15,7 @@ offset-fits s = search sfits-of
 
 -- the first two of the three tests are the code's
 tests : (c : tie.After-is-zone-offset) → let x = c .before .before .before .before .args in
-    (fieldsRepresentable (x .a) && eqℤ (x .a .time .«utc_offset») (cond (x .a .time .«summer_time») (pos 120) (pos 60)))
+    (fieldsRepresentable (x .a) && eqℤ (x .a .time .«utc_offset») (cetOffset (x .a .time .«summer_time»)))
     ≡ (c .before .before .are-fields-representable .result && c .is-zone-offset .result)
 tests c =
     let zone = rw (toZ-ofZ (offset-fits (c .before .before .before .before))) at (c .is-zone-offset .ensures) in

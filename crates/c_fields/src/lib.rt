@@ -1,4 +1,7 @@
 // Numbers as the readings that they stand for.
+use c_numbers::GPS_FIELDS;
+use c_numbers::MINUTE_FIELDS;
+use c_numbers::TIME_FIELDS;
 use clock_time::ClockTime;
 use clock_time::Error;
 use clock_time::MinuteDetail;
@@ -31,14 +34,14 @@ const MIN: i32 = -2147483648;
 const MAX: i32 = 2147483647;
 
 // The ends of the ranges of a GPS string's places, of which the first 14 are a clock time's.
-const GPS_LEAST: [i32; 17] = [0, 0, 0, 0, 0, 0, 0, -32768, 0, 0, 0, 0, 0, 0, MIN, MIN, 0];
+const GPS_LEAST: [i32; GPS_FIELDS] = [0, 0, 0, 0, 0, 0, 0, -32768, 0, 0, 0, 0, 0, 0, MIN, MIN, 0];
 
-const GPS_MOST: [i32; 17] = [W, B, B, B, B, B, B, 32767, 1, 1, 1, 1, 1, 1, MAX, MAX, W];
+const GPS_MOST: [i32; GPS_FIELDS] = [W, B, B, B, B, B, B, 32767, 1, 1, 1, 1, 1, 1, MAX, MAX, W];
 
 // The same of a minute's places.
-const MINUTE_LEAST: [i32; 16] = [0, 0, 0, 0, 0, 0, 0, -32768, 0, 0, 0, 0, 0, 0, 0, 0];
+const MINUTE_LEAST: [i32; MINUTE_FIELDS] = [0, 0, 0, 0, 0, 0, 0, -32768, 0, 0, 0, 0, 0, 0, 0, 0];
 
-const MINUTE_MOST: [i32; 16] = [W, B, B, B, B, B, B, 32767, 1, 1, 1, 1, 1, 1, W, 1];
+const MINUTE_MOST: [i32; MINUTE_FIELDS] = [W, B, B, B, B, B, B, 32767, 1, 1, 1, 1, 1, 1, W, 1];
 
 // True where the first numbers are in the ranges with these ends. It looks at all, which is quicker than to stop early.
 fn are_within(least: &[i32], most: &[i32], z: &[i32]) -> bool
@@ -142,7 +145,7 @@ fn minute_from(z: &[i32]) -> MinuteTime
 fn is_time(z: &[i32]) -> bool
     ensures { λ r. ⌜ r ≡ fits timeRanges (now (z .entry)) ⌝ }
 {
-    are_within(&GPS_LEAST[..14], &GPS_MOST[..14], z)
+    are_within(&GPS_LEAST[..TIME_FIELDS], &GPS_MOST[..TIME_FIELDS], z)
 }
 
 // The clock time that the first 14 numbers are. Refuses with Unrepresentable (23) if they are none.
@@ -159,7 +162,7 @@ pub fn first_time_of(z: &[i32]) -> ReadAnswer
 pub fn time_of(z: &[i32]) -> ReadAnswer
     ensures { λ r. ⌜ readAnswer r ≡ timeOf (now (z .entry)) ⌝ }
 {
-    if (z.len() == 14) & is_time(z) {
+    if (z.len() == TIME_FIELDS) & is_time(z) {
         return ReadAnswer::Read(time_from(z));
     }
     ReadAnswer::Refused(Error::Unrepresentable)
@@ -169,7 +172,7 @@ pub fn time_of(z: &[i32]) -> ReadAnswer
 pub fn gps_of(z: &[i32]) -> GpsAnswer
     ensures { λ r. ⌜ gpsAnswer r ≡ gpsOf (now (z .entry)) ⌝ }
 {
-    if (z.len() == 17) & are_within(&GPS_LEAST, &GPS_MOST, z) {
+    if (z.len() == GPS_FIELDS) & are_within(&GPS_LEAST, &GPS_MOST, z) {
         return GpsAnswer::Read(gps_from(z));
     }
     GpsAnswer::Refused(Error::Unrepresentable)
@@ -179,7 +182,7 @@ pub fn gps_of(z: &[i32]) -> GpsAnswer
 pub fn minute_of(z: &[i32]) -> MinuteAnswer
     ensures { λ r. ⌜ minuteAnswer r ≡ minuteOf (now (z .entry)) ⌝ }
 {
-    if (z.len() == 16) & are_within(&MINUTE_LEAST, &MINUTE_MOST, z) {
+    if (z.len() == MINUTE_FIELDS) & are_within(&MINUTE_LEAST, &MINUTE_MOST, z) {
         return MinuteAnswer::Read(minute_from(z));
     }
     MinuteAnswer::Refused(Error::Unrepresentable)

@@ -1,4 +1,5 @@
 -- Readings as the numbers that C has, in their order, and how they are put into lent memory.
+use Prim.Native.Nat.{ℕ}
 use mathlib.Core.Bool.{Bool, cond}
 use mathlib.Core.List.{List, [], _∷_, _++_}
 use lib.Dec.{ltb}
@@ -10,6 +11,16 @@ use Rattle.clock_time.specs.declared.ClockTime.{ClockTime}
 use Rattle.meinberg_gps.specs.declared.GpsTime.{GpsTime}
 use Rattle.dcf77.specs.declared.MinuteTime.{MinuteTime}
 use Rattle.clock_time.specs.Called.{leaving}
+
+-- how many numbers a clock time is, one with a position, and a minute
+abbrev pub timeCount : ℕ
+timeCount = 14
+
+abbrev pub gpsCount : ℕ
+gpsCount = 17
+
+abbrev pub minuteCount : ℕ
+minuteCount = 16
 
 -- a flag as a number: 1 where it is set, else 0
 abbrev pub flagNumber : Bool → ℤ

@@ -14,8 +14,15 @@ ghost use Rattle.meinberg_gps.specs.Gps.{gpsAnswer};
 ghost use Rattle.dcf77.specs.Minute.{minuteAnswer};
 ghost use Rattle.clock_time.specs.Called.{called, calledMemory};
 ghost use Rattle.clock_time.specs.Reading.{readAnswer};
-ghost use Rattle.c_numbers.specs.Numbers.{flagNumber, timeNumbers, gpsNumbers, minuteNumbers, putNumbers};
+ghost use Rattle.c_numbers.specs.Numbers.{flagNumber, timeNumbers, gpsNumbers, minuteNumbers, putNumbers, gpsCount};
 ghost use Rattle.c_numbers.specs.Numbers.{putAnswer};
+
+// How many numbers a clock time is, one with a position, and a minute.
+pub const TIME_FIELDS: usize = 14;
+
+pub const GPS_FIELDS: usize = 17;
+
+pub const MINUTE_FIELDS: usize = 16;
 
 fn number(x: u16) -> i32
     ensures { λ r. ⌜ r ≡ pos x ⌝ }
@@ -36,7 +43,7 @@ fn signed(x: i16) -> i32
 }
 
 // The numbers of a clock time, and three more.
-fn numbers_with(t: ClockTime, a: i32, b: i32, c: i32) -> [i32; 17]
+fn numbers_with(t: ClockTime, a: i32, b: i32, c: i32) -> [i32; GPS_FIELDS]
     ensures { λ r. ⌜ r ≡ timeNumbers t ++ (a ∷ b ∷ c ∷ []) ⌝ }
 {
     [
@@ -88,7 +95,7 @@ fn put_numbers(numbers: &[i32], fields: &mut [i32]) -> u8
 
 // Puts the first `count` of a clock time's numbers and three more.
 fn put_with(t: ClockTime, a: i32, b: i32, c: i32, count: usize, fields: &mut [i32]) -> u8
-    requires { ⌜ count ≤ 17 ⌝ }
+    requires { ⌜ count ≤ gpsCount ⌝ }
     ensures { λ r. ⌜
         called r (now (fields .exit))
         ≡ calledMemory (putNumbers (take count (timeNumbers t ++ (a ∷ b ∷ c ∷ []))) (now (fields .entry)))
@@ -103,7 +110,14 @@ fn put_position(g: GpsTime, fields: &mut [i32]) -> u8
 {
     let t = g.time;
     let p = g.position;
-    put_with(t, p.latitude, p.longitude, number(p.height), 17, fields)
+    put_with(
+        t,
+        p.latitude,
+        p.longitude,
+        number(p.height),
+        GPS_FIELDS,
+        fields,
+    )
 }
 
 fn put_detail(a: MinuteTime, fields: &mut [i32]) -> u8
@@ -118,7 +132,7 @@ fn put_detail(a: MinuteTime, fields: &mut [i32]) -> u8
         number(d.first_marks),
         flag_number(d.sixty),
         0,
-        16,
+        MINUTE_FIELDS,
         fields,
     )
 }
@@ -131,7 +145,7 @@ pub fn put_time(answer: ReadAnswer, fields: &mut [i32]) -> u8
         ⌝ }
 {
     match answer {
-        ReadAnswer::Read(t) => put_with(t, 0, 0, 0, 14, fields),
+        ReadAnswer::Read(t) => put_with(t, 0, 0, 0, TIME_FIELDS, fields),
         ReadAnswer::Refused(e) => clock_time::error_number(e),
     }
 }

@@ -1,4 +1,4 @@
--- Laws of signed numbers: what a wider width holds, how large a difference and a product are, and the remainder of a
+-- Laws of signed numbers: how large a difference and a product are, and the remainder of a
 -- difference, taken above zero.
 use Prim.Native.Nat.{ℕ, zero, suc, _+_, _-_, _*_, _%_, _≤_, _<_}
 use native.Mathlib.Nat.{mul-le-mul-left}
@@ -8,15 +8,9 @@ use mathlib.Core.Bool.{Bool, true, false, cond, _&&_, and-true}
 use lib.Dec.{T, leb, ltb, leb·suc-suc}
 use lib.IntN.{ℤ, pos, negsuc, negℤ, natAbs, _-ℤ_, _*ℤ_}
 use lib.Signed.{mag, leZ, nonNeg}
-use mir.Syntax.{Width, w16}
-use mir.Val.{SFits, toZ, ofZ, hbits}
-use mir.Facts.{toZ-ofZ, sfits-widen}
 use borrow.Author.Tests.{ltb-true, ltb-false, le-ltb}
 use Rattle.calendar.specs.TimeOfDay.{modulo}
 use Rattle.calendar.specs.UnixTime.{offsetInRange}
-
-pub widened : (w : Width) → T (leb 15 (hbits w)) → {z : ℤ} → SFits w16 z → toZ w (ofZ w (toZ w16 (ofZ w16 z))) ≡ z
-widened w t f = rw (toZ-ofZ f) (toZ-ofZ (sfits-widen t f))
 
 either : (t : Bool) (a b n : ℕ) → a < n → b < n → mag (cond t (negsuc a) (pos b)) < n
 either true a b n h k = h

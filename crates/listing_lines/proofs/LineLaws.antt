@@ -4,10 +4,10 @@ use mathlib.Core.Path.{_≡_, refl}
 use mathlib.Core.List.{List}
 use lib.IntN.{ℤ}
 use lib.ListN.{length}
+use Rattle.signed.specs.Offset.{offsetText}
 use Rattle.clock_time.specs.declared.ClockTime.{ClockTime}
 use Rattle.clock_time.specs.Lists.{ascii, slice}
 use Rattle.decimal.specs.Decimal.{digits}
-use Rattle.meinberg_gps.specs.Gps.{offsetText}
 use Rattle.listing_lines.specs.Line.{flagsText, lineWith, timeLine}
 
 -- ---- the line is made of its parts' bytes one by one

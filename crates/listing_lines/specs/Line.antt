@@ -4,12 +4,12 @@ use Prim.Native.Char.{Char, code}
 use mathlib.Core.Bool.{Bool, cond}
 use mathlib.Core.List.{List, [], _∷_, _++_}
 use lib.Dec.{eqb}
+use Rattle.signed.specs.Offset.{offsetText}
 use Rattle.clock_time.specs.Writing.{Written, writing}
 use Rattle.clock_time.specs.declared.ClockTime.{ClockTime}
 use Rattle.clock_time.specs.Lists.{ascii}
 use Rattle.calendar.specs.UnixTime.{isReading}
 use Rattle.decimal.specs.Decimal.{digits}
-use Rattle.meinberg_gps.specs.Gps.{offsetText}
 
 -- a letter where a flag is set, else a dash
 abbrev pub letterOrDash : Bool → Char → ℕ

@@ -31,7 +31,7 @@ pub type LineBytes = [u8; 35];
 pub fn time_line(t: ClockTime) -> LineBytes
     ensures { λ r. ⌜ r ≡ timeLine t ⌝ }
 {
-    let zone = meinberg_gps_writer::parts::offset_text(t.utc_offset);
+    let zone = signed::offset::offset_text(t.utc_offset);
     let flags = flags_text(t);
     let century = decimal::pair(t.year as u32 / 10 / 10);
     let d = layout::clock_digits(t);

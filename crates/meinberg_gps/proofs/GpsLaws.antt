@@ -3,6 +3,7 @@ use Prim.Native.Nat.{ℕ}
 use mathlib.Core.Path.{_≡_, refl}
 use mathlib.Core.Bool.{Bool, true, false, _&&_}
 use mathlib.Core.List.{List}
+use Rattle.signed.specs.Offset.{offsetText}
 use Rattle.clock_time.specs.Writing.{Written, writing}
 use Rattle.clock_time.proofs.SameLaws.{beq-refl}
 use Rattle.clock_time.specs.Lists.{ascii}
@@ -19,7 +20,7 @@ use Rattle.meinberg_gps_position.specs.Position.{angleBytes, positionText, posi
 use Rattle.meinberg_gps_position.proofs.PositionLaws.{position-representable}
 use Rattle.meinberg_gps_position.proofs.PositionWrittenLaws.{PositionRead, position-read}
 use Rattle.meinberg_pzf.specs.Pzf.{pzfText}
-use Rattle.meinberg_gps.specs.Gps.{gpsLayout, offsetText, leapMismatch, clockOf, gpsFields, lineWith, gpsText}
+use Rattle.meinberg_gps.specs.Gps.{gpsLayout, leapMismatch, clockOf, gpsFields, lineWith, gpsText}
 use Rattle.meinberg_gps.specs.Gps.{gps}
 use Rattle.meinberg_gps.specs.Gps.{writtenGps, writeGps}
 use Rattle.meinberg_gps.specs.declared.GpsTime.{GpsTime}

@@ -8,6 +8,7 @@ use lib.Dec.{leb}
 use lib.ListN.{getD}
 use lib.IntN.{ℤ, natAbs}
 use borrow.Author.Tests.{leb-true, le-leb, not-false}
+use Rattle.signed.specs.Offset.{offsetText}
 use Rattle.clock_time.proofs.Tests.{both}
 use Rattle.clock_time.specs.Lists.{ascii, slice}
 use Rattle.calendar.specs.UnixTime.{offsetInRange}
@@ -18,7 +19,7 @@ use Rattle.layout.proofs.LayoutLaws.{number-below}
 use Rattle.layout.proofs.WriteLaws.{digits-number}
 use Rattle.signed.specs.Signed.{signHolds}
 use Rattle.signed.proofs.SignedLaws.{signed-magnitude, sign-limit, sign-byte-signed, sign-read, sign-written}
-use Rattle.meinberg_gps.specs.Gps.{gpsLayout, offsetMagnitude, offsetFault, offsetOf, offsetText}
+use Rattle.meinberg_gps.specs.Gps.{gpsLayout, offsetMagnitude, offsetFault, offsetOf}
 
 pub offset-small : {s : List ℕ} → FitsLayout gpsLayout s → offsetMagnitude s < 6040
 unfolding gpsLayout ascii

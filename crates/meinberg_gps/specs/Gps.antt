@@ -1,11 +1,11 @@
 -- The Meinberg GPS string, 66 bytes.
-use Prim.Native.Nat.{ℕ, _+_, _*_, _/_, _%_}
+use Prim.Native.Nat.{ℕ, _+_, _*_}
 use Prim.Native.Char.{code}
 use mathlib.Core.Bool.{Bool, false, not, _&&_, Bool·beq}
 use mathlib.Core.List.{List, [], _∷_, _++_}
 use lib.Dec.{leb, eqb}
 use lib.ListN.{getD}
-use lib.IntN.{ℤ, natAbs}
+use lib.IntN.{ℤ}
 use Rattle.clock_time.specs.Errors.{Answer, accepted, refused, errorNumber, given, checked}
 use Rattle.clock_time.specs.Same.{sameTime, samePosition}
 use Rattle.clock_time.specs.Writing.{Written}
@@ -16,7 +16,8 @@ use Rattle.gregorian.specs.Date.{fullYear}
 use Rattle.decimal.specs.Decimal.{digits}
 use Rattle.layout.specs.Layout.{digit, free, flag, places, number, has}
 use Rattle.layout.specs.Text.{Format, WrittenFormat, supportedDay, clockChecks, readText, writeText, letter}
-use Rattle.signed.specs.Signed.{signed, signHolds, signByte}
+use Rattle.signed.specs.Signed.{signed, signHolds}
+use Rattle.signed.specs.Offset.{offsetText}
 use Rattle.meinberg_gps_position.specs.Position.{positionFault, positionOf, positionText}
 use Rattle.meinberg_pzf.specs.Pzf.{pzfText}
 use Rattle.meinberg_gps.specs.declared.GpsTime.{GpsTime}
@@ -50,10 +51,6 @@ offsetFault s = not (leb (number 2 28 s) 59 && signHolds (code "+") (code "-") 8
 -- "offset in minutes (local minus UTC, signed)" (01, The reading)
 unfoldable pub offsetOf : List ℕ → ℤ
 offsetOf s = signed (has "-" 24 s) (offsetMagnitude s)
-
--- the bytes of an offset, from its sign on
-unfoldable pub offsetText : ℤ → List ℕ
-offsetText z = signByte (code "+") (code "-") z ∷ digits 2 (natAbs z / 60) ++ ascii ":" ++ digits 2 (natAbs z % 60)
 
 -- ---- the fields
 -- "b must be `L` exactly if the second is 60 (wrong letter 4, mismatch 6)." (01, Meinberg and ELV strings)

@@ -5,7 +5,6 @@ ghost use mathlib.Core.Path.{_≡_};
 ghost use Rattle.clock_time.specs.Writing.{written};
 ghost use Rattle.meinberg_gps.specs.Gps.{writeGps};
 
-pub mod parts;
 mod text;
 
 // Writes a clock time and a position as a Meinberg GPS string to the front of `out`. Refuses with Unrepresentable (23)

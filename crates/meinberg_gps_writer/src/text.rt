@@ -1,8 +1,7 @@
 // The bytes of a whole GPS string.
-use crate::parts;
-use crate::parts::OffsetText;
 use meinberg_gps::GpsTime;
 use meinberg_gps_position::PositionText;
+use signed::offset::OffsetText;
 ghost use mathlib.Core.Path.{_≡_};
 ghost use Rattle.meinberg_gps.specs.Gps.{lineWith, gpsText};
 
@@ -87,7 +86,7 @@ pub(crate) fn text_of(g: GpsTime) -> [u8; 66]
 {
     let t = g.time;
     let pzf = meinberg_pzf_writer::text_of(t);
-    let offset = parts::offset_text(t.utc_offset);
+    let offset = signed::offset::offset_text(t.utc_offset);
     let leap = layout::letter_if(t.second == 60, b'L');
     let position = meinberg_gps_position::position_text(g.position);
     line_with(pzf, offset, leap, position)

@@ -3,6 +3,8 @@ ghost use mathlib.Core.Path.{_≡_};
 ghost use lib.IntN.{natAbs};
 ghost use Rattle.signed.specs.Signed.{signed, signHolds, signByte};
 
+pub mod offset;
+
 // The number of a magnitude, below zero where `negative`.
 pub fn with_sign(negative: bool, magnitude: u32) -> i64
     ensures { λ r. ⌜ r ≡ signed negative magnitude ⌝ }

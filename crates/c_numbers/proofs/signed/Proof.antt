@@ -1,6 +1,6 @@
 use mir.Syntax.{w32}
 use mir.Facts.{toZ-ofZ, sfits-widen}
-use Rattle.calendar.proofs.SignedLaws.{widened}
+use Rattle.clock_time.proofs.WidthLaws.{widened}
 use Rattle.c_numbers.proofs.signed.Statement.{statement}
 use Rattle.c_numbers.proofs.signed.Tie as tie
 

@@ -7,8 +7,9 @@ use lib.IntN.{pos, _-ℤ_}
 use mir.Syntax.{w16, w32}
 use mir.Val.{toZ, ofZ}
 use mir.Facts.{toZ-ofZ, toZ-pos, sfits-widen}
+use Rattle.clock_time.proofs.WidthLaws.{widened}
 use Rattle.calendar.specs.TimeOfDay.{utcMinute}
-use Rattle.calendar.proofs.SignedLaws.{widened, difference-magnitude, shifted, Shifted}
+use Rattle.calendar.proofs.SignedLaws.{difference-magnitude, shifted, Shifted}
 use Rattle.calendar.proofs.time_of_day.utc_minute.Statement.{statement}
 use Rattle.calendar.proofs.time_of_day.utc_minute.Tie as tie
 

@@ -6,7 +6,8 @@ use lib.IntN.{pos, _*ℤ_}
 use mir.Syntax.{w64}
 use mir.Val.{SFits}
 use mir.Facts.{toZ-ofZ, toZ-pos, sfits-widen}
-use Rattle.calendar.proofs.SignedLaws.{widened, difference-magnitude, product-magnitude}
+use Rattle.clock_time.proofs.WidthLaws.{widened}
+use Rattle.calendar.proofs.SignedLaws.{difference-magnitude, product-magnitude}
 use Rattle.calendar.proofs.unix_time.to_utc.Statement.{statement}
 use Rattle.calendar.proofs.unix_time.to_utc.Tie as tie
 

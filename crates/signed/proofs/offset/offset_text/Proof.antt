@@ -2,12 +2,12 @@ use borrow.Author.Needs.{needs}
 use mir.Syntax.{w32}
 use mir.Facts.{toZ-ofZ, sfits-widen}
 use Rattle.clock_time.specs.Lists.{ascii}
-use Rattle.calendar.proofs.SignedLaws.{widened}
+use Rattle.clock_time.proofs.WidthLaws.{widened}
 use Rattle.decimal.specs.Decimal.{digits}
 use Rattle.decimal.proofs.PairLaws.{first-byte, second-byte}
-use Rattle.meinberg_gps.specs.Gps.{offsetText}
-use Rattle.meinberg_gps_writer.proofs.parts.offset_text.Statement.{statement}
-use Rattle.meinberg_gps_writer.proofs.parts.offset_text.Tie as tie
+use Rattle.signed.specs.Offset.{offsetText}
+use Rattle.signed.proofs.offset.offset_text.Statement.{statement}
+use Rattle.signed.proofs.offset.offset_text.Tie as tie
 
 cast-magnitude : tie.Need-cast-magnitude
 cast-magnitude c = rw (toZ-ofZ (c .fits .offset)) (sfits-widen tt (c .fits .offset))

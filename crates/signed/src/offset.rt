@@ -1,6 +1,6 @@
-// The bytes of an offset.
+// A UTC offset as it is written.
 ghost use mathlib.Core.Path.{_≡_};
-ghost use Rattle.meinberg_gps.specs.Gps.{offsetText};
+ghost use Rattle.signed.specs.Offset.{offsetText};
 
 // A sign, two digits, a colon, two digits.
 pub type OffsetText = [u8; 6];
@@ -9,11 +9,11 @@ pub type OffsetText = [u8; 6];
 pub fn offset_text(offset: i16) -> OffsetText
     ensures { λ r. ⌜ r ≡ offsetText offset ⌝ }
 {
-    let magnitude = signed::magnitude(offset as i32);
+    let magnitude = crate::magnitude(offset as i32);
     let hours = decimal::pair(magnitude / 60);
     let minutes = decimal::pair(magnitude % 60);
     [
-        signed::sign_byte(b'+', b'-', offset as i32),
+        crate::sign_byte(b'+', b'-', offset as i32),
         (hours % 256) as u8,
         (hours / 256) as u8,
         b':',

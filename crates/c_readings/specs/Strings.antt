@@ -5,21 +5,10 @@ use lib.IntN.{ℤ}
 use Rattle.clock_time.specs.Errors.{Answer, accepted}
 use Rattle.clock_time.specs.Exit.{Exit}
 use Rattle.calendar.specs.UnixTime.{unixTime}
-use Rattle.time_string.specs.Kind.{kindOf, Reading, time, timeAndPosition, readAs}
-use Rattle.time_string.specs.declared.Kind.{Kind}
-use Rattle.time_string.specs.declared.Kind.the-variants.{Standard, Pzf, Gps, Elv}
+use Rattle.time_string.specs.Kind.{kindOf, kindNumber, kindNamed, Reading, time, timeAndPosition, readAs}
 use Rattle.clock_time.specs.Called.{andThen}
 use Rattle.c_numbers.specs.Numbers.{timeNumbers, gpsNumbers, putAnswer}
 use Rattle.c_fields.specs.Ranges.{firstTimeOf}
-use Rattle.c_writer.specs.Writers.{kindNamed}
-
--- ---- kinds
--- the kinds as C numbers them
-abbrev pub kindNumber : Kind → ℕ
-kindNumber Standard = 0
-kindNumber Pzf = 1
-kindNumber Gps = 2
-kindNumber Elv = 3
 
 -- "A separate question tells the kind from the bytes" (01, Meinberg and ELV strings)
 unfoldable pub kindNumberOf : List ℕ → Answer ℕ

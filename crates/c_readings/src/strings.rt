@@ -3,8 +3,9 @@ use time_string::Kind;
 use time_string::KindAnswer;
 ghost use mathlib.Core.Path.{_≡_};
 ghost use Rattle.clock_time.specs.Called.{called, calledAnswer, calledMemory, calledBoth};
-ghost use Rattle.c_readings.specs.Strings.{kindNumber, kindNumberOf, readInto};
+ghost use Rattle.time_string.specs.Kind.{kindNumber};
 ghost use Rattle.c_writer.specs.Writers.{writeFrom};
+ghost use Rattle.c_readings.specs.Strings.{kindNumberOf, readInto};
 
 fn kind_number(k: Kind) -> u8
     ensures { λ r. ⌜ r ≡ kindNumber k ⌝ }

@@ -1,2 +1,2 @@
 -- Laws of writing from numbers.
-pub mod KindLaws
+pub mod WritersLaws

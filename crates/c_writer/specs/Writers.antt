@@ -5,7 +5,6 @@ use mathlib.Core.List.{List}
 use lib.Dec.{eqb}
 use lib.IntN.{ℤ}
 use Rattle.clock_time.specs.Called.{leaving}
-use Rattle.clock_time.specs.Errors.{Answer, accepted, refused}
 use Rattle.clock_time.specs.Writing.{Written}
 use Rattle.clock_time.specs.declared.ClockTime.{ClockTime}
 use Rattle.meinberg_standard.specs.Standard.{writeStandard}
@@ -13,18 +12,10 @@ use Rattle.meinberg_pzf.specs.Pzf.{writePzf}
 use Rattle.meinberg_gps.specs.Gps.{writeGps}
 use Rattle.elv_dcf7000.specs.Elv.{writeElv}
 use Rattle.dcf77.specs.Minute.{writeMinute}
+use Rattle.time_string.specs.Kind.{kindNamed}
 use Rattle.time_string.specs.declared.Kind.{Kind}
 use Rattle.time_string.specs.declared.Kind.the-variants.{Standard, Pzf, Gps, Elv}
 use Rattle.c_fields.specs.Ranges.{timeOf, gpsOf, minuteOf}
-
--- "an unknown kind number from C gives 1" (01, Meinberg and ELV strings)
-unfoldable pub kindNamed : ℕ → Answer Kind
-kindNamed n =
-    cond (eqb n 0) (accepted Standard)
-    (cond (eqb n 1) (accepted Pzf)
-    (cond (eqb n 2) (accepted Gps)
-    (cond (eqb n 3) (accepted Elv)
-    (refused 1))))
 
 -- "For a writer: 23, 20" (01, Refusal numbers): as the kind's writer, after 23 where the numbers are no reading's
 unfoldable pub writeAs : Kind → List ℤ → List ℕ → Written

@@ -36,11 +36,11 @@ use Rattle.elv_dcf7000.specs.Accepts.{AcceptsElv}
 use Rattle.dcf77.specs.Accepts.{AcceptsMinute}
 use Rattle.gregorian.specs.Days.{DayAfter, OnWeekday}
 use Rattle.gregorian.proofs.Theorems as days
-use Rattle.time_string.specs.Kind.{Reading, readingTime, kindOf, readAs}
+use Rattle.time_string.specs.Kind.{Reading, readingTime, kindOf, kindNumber, readAs}
 use Rattle.time_string.specs.declared.Kind.{Kind}
 use Rattle.c_numbers.specs.Numbers.{minuteNumbers}
 use Rattle.c_writer.specs.Writers.{writeFrom, writeMinuteFrom}
-use Rattle.c_readings.specs.Strings.{kindNumber, kindNumberOf, readingNumbers, readInto, unixTimeOf}
+use Rattle.c_readings.specs.Strings.{kindNumberOf, readingNumbers, readInto, unixTimeOf}
 use Rattle.c_readings.specs.Minutes.{readMinuteInto}
 use Rattle.demands.specs.Accepted.{TellsKind, AcceptsAs, AcceptsNumbered, AcceptsNumbers, AcceptsMinuteNumbers}
 use Rattle.demands.specs.Exactly.{ReadsExactly, WritesExactly, CallAnswersExactly, CallReadsExactly}

@@ -18,16 +18,14 @@ use Rattle.meinberg_standard.specs.Standard.{standard, standardFields, readStan
 use Rattle.meinberg_pzf.specs.Pzf.{pzf, pzfFields, readPzf}
 use Rattle.meinberg_gps.specs.Gps.{gps, gpsFields, readGps}
 use Rattle.elv_dcf7000.specs.Elv.{elv, elvFields, readElv}
-use Rattle.time_string.specs.Kind.{kindOf, timeOnly, located, time, timeAndPosition, readAs}
+use Rattle.time_string.specs.Kind.{kindOf, kindNumber, kindNamed, timeOnly, located, time, timeAndPosition, readAs}
+use Rattle.time_string.proofs.KindLaws.{kind-unknown}
 use Rattle.time_string.specs.declared.Kind.{Kind}
 use Rattle.time_string.specs.declared.Kind.the-variants.{Standard, Pzf, Gps, Elv}
 use Rattle.dcf77.specs.Minute.{minuteChecks, minuteFields, readMinute}
 use Rattle.c_numbers.specs.Numbers.{timeNumbers, gpsNumbers, minuteNumbers, putNumbers, putAnswer}
 use Rattle.c_fields.specs.Ranges.{timeRanges, fits, timeFrom, numbered}
-use Rattle.c_writer.specs.Writers.{kindNamed}
-use Rattle.c_writer.proofs.KindLaws.{kind-unknown}
-use Rattle.c_readings.specs.Strings.{kindNumber, kindNumberOf, readingNumbers, readNumbered, readInto}
-use Rattle.c_readings.specs.Strings.{unixTimeOf}
+use Rattle.c_readings.specs.Strings.{kindNumberOf, readingNumbers, readNumbered, readInto, unixTimeOf}
 use Rattle.c_readings.specs.Minutes.{readMinuteInto}
 use Rattle.demands.specs.Lines.{namedKind, numberCount}
 use Rattle.demands.proofs.Checks.{checksAs, readingAs, kindChecks, kindCheck, roomCheck, readChecks}

@@ -9,7 +9,8 @@ use Rattle.clock_time.proofs.ExactLaws.{lt-exactly}
 use Rattle.calendar.specs.UnixTime.{instantOf}
 use Rattle.dcf77.specs.Minute.{readMinute}
 use Rattle.c_fields.specs.Ranges.{timeFrom}
-use Rattle.c_readings.specs.Strings.{kindNumber, kindNumberOf, readNumbered, unixTimeOf}
+use Rattle.time_string.specs.Kind.{kindNumber}
+use Rattle.c_readings.specs.Strings.{kindNumberOf, readNumbered, unixTimeOf}
 use Rattle.demands.specs.Lines.{textOrder, ownNumbers, minuteOrder, kindLines, linesAs, unknownKind, namedKind, instantLinesOf}
 use Rattle.demands.proofs.Checks.{checksAs, readingAs, kindCheck, kindChecks}
 use Rattle.demands.proofs.EntryLaws as entry

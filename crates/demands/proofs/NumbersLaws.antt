@@ -30,14 +30,14 @@ use Rattle.elv_dcf7000.proofs.Theorems as elvs
 use Rattle.dcf77.specs.Minute.{writeMinute}
 use Rattle.dcf77.specs.declared.MinuteTime.{MinuteTime}
 use Rattle.dcf77.proofs.Theorems as minutes
-use Rattle.time_string.specs.Kind.{Reading, time, timeAndPosition, readingTime}
+use Rattle.time_string.specs.Kind.{kindNumber, Reading, time, timeAndPosition, readingTime}
 use Rattle.time_string.specs.declared.Kind.{Kind}
 use Rattle.time_string.specs.declared.Kind.the-variants.{Standard, Pzf, Gps, Elv}
 use Rattle.c_numbers.specs.Numbers.{timeNumbers, gpsNumbers, minuteNumbers}
 use Rattle.c_fields.specs.Ranges.{numbered, timeOf, gpsOf, minuteOf}
 use Rattle.c_fields.proofs.Theorems as fields
 use Rattle.c_writer.specs.Writers.{writeAs, writeFrom, writeMinuteFrom}
-use Rattle.c_readings.specs.Strings.{kindNumber, readingNumbers}
+use Rattle.c_readings.specs.Strings.{readingNumbers}
 use Rattle.demands.specs.Accepted.{Hands, AcceptsAs, AcceptsNumbered, AcceptsNumbers, AcceptsMinuteNumbers}
 use Rattle.demands.specs.Lines.{namedKind, numberCount, writeLines}
 use Rattle.demands.specs.Exactly.{WritesExactly, CallWritesExactly}

@@ -25,13 +25,13 @@ use Rattle.meinberg_gps.proofs.Theorems as gpss
 use Rattle.elv_dcf7000.specs.Elv.{readElv}
 use Rattle.elv_dcf7000.proofs.Theorems as elvs
 use Rattle.time_string.specs.Kind.{Reading, time, timeAndPosition, timeOnly, located, kindOf, readAs}
+use Rattle.time_string.specs.Kind.{kindNumber, kindNamed}
+use Rattle.time_string.proofs.KindLaws.{named-number, kind-unknown}
 use Rattle.time_string.specs.declared.Kind.{Kind}
 use Rattle.time_string.specs.declared.Kind.the-variants.{Standard, Pzf, Gps, Elv}
 use Rattle.c_numbers.specs.Numbers.{putAnswer}
 use Rattle.c_numbers.proofs.NumberLaws.{put-no-room, put-room}
-use Rattle.c_writer.specs.Writers.{kindNamed}
-use Rattle.c_writer.proofs.KindLaws.{kind-unknown}
-use Rattle.c_readings.specs.Strings.{kindNumber, kindNumberOf, readNumbered}
+use Rattle.c_readings.specs.Strings.{kindNumberOf, readNumbered}
 use Rattle.demands.specs.Accepted.{TellsKind, Hands, AcceptsAs, AcceptsNumbered}
 use Rattle.demands.specs.Exactly.{ReadsExactly, CallAnswersExactly, CallReadsExactly}
 
@@ -114,16 +114,9 @@ as-exactly Gps s =
 as-exactly Elv s = handed timeOnly time (λ t. refl) time-only-time (readElv s) (elvs.faithful .accepted-exactly s)
 
 -- by the kind that a number names
-number-kind : (kind : Kind) → kindNamed (kindNumber kind) ≡ accepted kind
-unfolding kindNamed
-number-kind Standard = refl
-number-kind Pzf = refl
-number-kind Gps = refl
-number-kind Elv = refl
-
 named-exactly : (n : ℕ) → ReadsExactly (λ kind. n ≡ kindNumber kind) (kindNamed n)
 unfolding kindNamed
-named-exactly n kind = (named n, λ e. rw e (number-kind kind))
+named-exactly n kind = (named n, λ e. rw e (named-number kind))
   where
     numbered : {k : Kind} → accepted k ≡ accepted kind → kindNumber k ≡ kindNumber kind
     numbered {k} e = let same : k ≡ kind = cc in ap kindNumber same

@@ -11,11 +11,11 @@ use Rattle.meinberg_gps.specs.Accepts.{AcceptsGps}
 use Rattle.elv_dcf7000.specs.Accepts.{AcceptsElv}
 use Rattle.dcf77.specs.Accepts.{AcceptsMinute}
 use Rattle.dcf77.specs.declared.MinuteTime.{MinuteTime}
-use Rattle.time_string.specs.Kind.{Reading, time, timeAndPosition}
+use Rattle.time_string.specs.Kind.{kindNumber, Reading, time, timeAndPosition}
 use Rattle.time_string.specs.declared.Kind.{Kind}
 use Rattle.time_string.specs.declared.Kind.the-variants.{Standard, Pzf, Gps, Elv}
 use Rattle.c_numbers.specs.Numbers.{minuteNumbers}
-use Rattle.c_readings.specs.Strings.{kindNumber, readingNumbers}
+use Rattle.c_readings.specs.Strings.{readingNumbers}
 
 -- "66 long is GPS; 32 long is standard if place 1 holds `D`, else PZF; 21 long is ELV" (01, Meinberg and ELV strings)
 abbrev pub TellsKind : List ℕ → Kind → Type 0

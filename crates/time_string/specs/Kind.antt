@@ -1,4 +1,4 @@
--- The kind of a time string, and reading by kind.
+-- The kind of a time string, its number in C, and reading by kind.
 use Prim.Native.Nat.{ℕ}
 use mathlib.Core.Bool.{cond}
 use mathlib.Core.List.{List}
@@ -32,6 +32,22 @@ kindOf s =
 abbrev pub kindAnswer : KindAnswer → Answer Kind
 kindAnswer (kinds.Kind k) = accepted k
 kindAnswer (kinds.Refused e) = refused (errorNumber e)
+
+-- the kinds as C numbers them
+abbrev pub kindNumber : Kind → ℕ
+kindNumber Standard = 0
+kindNumber Pzf = 1
+kindNumber Gps = 2
+kindNumber Elv = 3
+
+-- "an unknown kind number from C gives 1" (01, Meinberg and ELV strings)
+unfoldable pub kindNamed : ℕ → Answer Kind
+kindNamed n =
+    cond (eqb n 0) (accepted Standard)
+    (cond (eqb n 1) (accepted Pzf)
+    (cond (eqb n 2) (accepted Gps)
+    (cond (eqb n 3) (accepted Elv)
+    (refused 1))))
 
 -- "A GPS string adds position and height" (01, The reading)
 pub data Reading : Type 0 where

@@ -1,8 +1,9 @@
 use borrow.Author.Needs.{needs}
 use native.Mathlib.Omega.{arith}
 use denote.Ref.{now}
-use Rattle.c_writer.specs.Writers.{kindNamed, writeFrom}
-use Rattle.c_writer.proofs.KindLaws.{write-unknown, write-time-from}
+use Rattle.time_string.specs.Kind.{kindNamed}
+use Rattle.c_writer.specs.Writers.{writeFrom}
+use Rattle.c_writer.proofs.WritersLaws.{write-unknown, write-time-from}
 use Rattle.c_writer.proofs.write_string.Statement.{statement}
 use Rattle.c_writer.proofs.write_string.Tie as tie
 

@@ -1,9 +1,8 @@
 use borrow.Author.Needs.{needs}
 use native.Mathlib.Omega.{arith}
-use Rattle.time_string.specs.Kind.{readAs}
+use Rattle.time_string.specs.Kind.{kindNamed, readAs}
+use Rattle.time_string.proofs.KindLaws.{kind-unknown}
 use Rattle.c_numbers.specs.Numbers.{putAnswer}
-use Rattle.c_writer.specs.Writers.{kindNamed}
-use Rattle.c_writer.proofs.KindLaws.{kind-unknown}
 use Rattle.c_readings.specs.Strings.{readInto, readNumbered}
 use Rattle.c_readings.proofs.StringLaws.{time-only-put, located-put}
 use Rattle.c_readings.proofs.strings.radio_clock_read.Statement.{statement}

@@ -5,20 +5,11 @@ use native.Mathlib.Omega.{arith}
 use mathlib.Core.Path.{_≡_}
 use mathlib.Core.List.{List}
 use lib.IntN.{ℤ}
-use borrow.Author.Tests.{ne-eqb}
 use Rattle.clock_time.specs.Errors.{refused}
 use Rattle.clock_time.specs.Exit.{exit}
-use Rattle.c_writer.specs.Writers.{kindNamed, writeAs, writeFrom, writeTime, writeTimeFrom}
-
-pub kind-unknown : (n : ℕ) → 3 < n → kindNamed n ≡ refused 1
-unfolding kindNamed
-kind-unknown n h =
-    simp (
-      ne-eqb n 0 (λ e. omega (arith, e)),
-      ne-eqb n 1 (λ e. omega (arith, e)),
-      ne-eqb n 2 (λ e. omega (arith, e)),
-      ne-eqb n 3 (λ e. omega (arith, e)),
-    )
+use Rattle.time_string.specs.Kind.{kindNamed}
+use Rattle.time_string.proofs.KindLaws.{kind-unknown}
+use Rattle.c_writer.specs.Writers.{writeAs, writeFrom, writeTime, writeTimeFrom}
 
 module _ (n : ℕ) (z : List ℤ) (d : List ℕ) where
   pub write-unknown : 3 < n → writeFrom n z d ≡ exit (refused 1) d

@@ -38,7 +38,8 @@ use Rattle.c_fields.specs.Ranges.{numbered, timeOf, gpsOf, minuteOf}
 use Rattle.c_fields.proofs.Theorems as fields
 use Rattle.c_writer.specs.Writers.{writeAs, writeFrom, writeMinuteFrom}
 use Rattle.c_readings.specs.Strings.{readingNumbers}
-use Rattle.demands.specs.Accepted.{Hands, AcceptsAs, AcceptsNumbered, AcceptsNumbers, AcceptsMinuteNumbers}
+use Rattle.demands.specs.Kinds.{Hands}
+use Rattle.demands.specs.Accepted.{AcceptsAs, AcceptsNumbered, AcceptsNumbers, AcceptsMinuteNumbers}
 use Rattle.demands.specs.Lines.{namedKind, numberCount, writeLines}
 use Rattle.demands.specs.Exactly.{WritesExactly, CallWritesExactly}
 use Rattle.demands.proofs.EntryLaws.{kind-named}

@@ -32,7 +32,8 @@ use Rattle.time_string.specs.declared.Kind.the-variants.{Standard, Pzf, Gps, El
 use Rattle.c_numbers.specs.Numbers.{putAnswer}
 use Rattle.c_numbers.proofs.NumberLaws.{put-no-room, put-room}
 use Rattle.c_readings.specs.Strings.{kindNumberOf, readNumbered}
-use Rattle.demands.specs.Accepted.{TellsKind, Hands, AcceptsAs, AcceptsNumbered}
+use Rattle.demands.specs.Kinds.{Hands}
+use Rattle.demands.specs.Accepted.{TellsKind, AcceptsAs, AcceptsNumbered}
 use Rattle.demands.specs.Exactly.{ReadsExactly, CallAnswersExactly, CallReadsExactly}
 
 -- ---- the kind of a string

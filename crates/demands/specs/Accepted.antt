@@ -1,39 +1,23 @@
 -- Which strings and runs of marks are accepted, and as which readings: by kind, and by the numbers that C has.
 use Prim.Native.Nat.{ℕ}
-use Prim.Native.Char.{code}
 use mathlib.Core.Path.{_≡_}
 use mathlib.Core.List.{List}
-use lib.ListN.{length, getD}
 use lib.IntN.{ℤ}
-use Rattle.meinberg_standard.specs.Accepts.{AcceptsStandard}
-use Rattle.meinberg_pzf.specs.Accepts.{AcceptsPzf}
-use Rattle.meinberg_gps.specs.Accepts.{AcceptsGps}
-use Rattle.elv_dcf7000.specs.Accepts.{AcceptsElv}
 use Rattle.dcf77.specs.Accepts.{AcceptsMinute}
 use Rattle.dcf77.specs.declared.MinuteTime.{MinuteTime}
-use Rattle.time_string.specs.Kind.{kindNumber, Reading, time, timeAndPosition}
+use Rattle.time_string.specs.Kind.{kindNumber, Reading}
 use Rattle.time_string.specs.declared.Kind.{Kind}
-use Rattle.time_string.specs.declared.Kind.the-variants.{Standard, Pzf, Gps, Elv}
 use Rattle.c_numbers.specs.Numbers.{minuteNumbers}
 use Rattle.c_readings.specs.Strings.{readingNumbers}
+use Rattle.demands.specs.Kinds.{kindRules}
 
--- "66 long is GPS; 32 long is standard if place 1 holds `D`, else PZF; 21 long is ELV" (01, Meinberg and ELV strings)
+-- the bytes of a string tell its kind
 abbrev pub TellsKind : List ℕ → Kind → Type 0
-TellsKind s Gps = length s ≡ 66
-TellsKind s Standard = (length s ≡ 32) × (getD s 1 0 ≡ code "D")
-TellsKind s Pzf = (length s ≡ 32) × (getD s 1 0 ≡ code "D" → ⊥)
-TellsKind s Elv = length s ≡ 21
+TellsKind s kind = kindRules kind .Tells s
 
--- a reading that comes from a value that is accepted
-abbrev pub Hands : {A : Type 0} → (A → Reading) → (A → Type 0) → Reading → Type 0
-Hands {A} say Accepts r = (a : A) × (Accepts a × (r ≡ say a))
-
--- "The caller names the kind" (01, Meinberg and ELV strings): a string of that kind is accepted as a reading
+-- a string of a kind is accepted as a reading
 abbrev pub AcceptsAs : Kind → List ℕ → Reading → Type 0
-AcceptsAs Standard s r = Hands time (AcceptsStandard s) r
-AcceptsAs Pzf s r = Hands time (AcceptsPzf s) r
-AcceptsAs Gps s r = Hands timeAndPosition (AcceptsGps s) r
-AcceptsAs Elv s r = Hands time (AcceptsElv s) r
+AcceptsAs kind s r = kindRules kind .Accepts s r
 
 -- ---- from C
 -- the kind is named by its number

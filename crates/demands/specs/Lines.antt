@@ -11,14 +11,11 @@ use Rattle.clock_time.specs.Order.{Line, line}
 use Rattle.clock_time.specs.declared.ClockTime.{ClockTime}
 use Rattle.gregorian.specs.Rules.{GregorianDate}
 use Rattle.calendar.specs.Rules.{ValidReading}
-use Rattle.meinberg_standard.specs.Lines.{standardLines}
-use Rattle.meinberg_pzf.specs.Lines.{pzfLines}
-use Rattle.meinberg_gps.specs.Lines.{gpsLines}
-use Rattle.elv_dcf7000.specs.Lines.{elvLines}
 use Rattle.dcf77.specs.Lines.{minuteLines}
 use Rattle.time_string.specs.declared.Kind.{Kind}
 use Rattle.time_string.specs.declared.Kind.the-variants.{Standard, Pzf, Gps, Elv}
 use Rattle.c_numbers.specs.Numbers.{timeNumbers}
+use Rattle.demands.specs.Kinds.{kindRules}
 use Rattle.demands.specs.Accepted.{AcceptsNumbers}
 
 -- ---- the orders
@@ -26,24 +23,18 @@ use Rattle.demands.specs.Accepted.{AcceptsNumbers}
 abbrev pub textOrder : List ℕ → List ℕ
 textOrder own = 1 ∷ 2 ∷ 3 ∷ 4 ∷ own ++ (5 ∷ 6 ∷ 7 ∷ [])
 
--- 8: "offset sign or size"; 9: "position" (01, Refusal numbers): only GPS strings have either
+-- a kind's own numbers
 abbrev pub ownNumbers : Kind → List ℕ
-ownNumbers Standard = []
-ownNumbers Pzf = []
-ownNumbers Gps = 8 ∷ 9 ∷ []
-ownNumbers Elv = []
+ownNumbers kind = kindRules kind .own
 
 -- "For a minute: 11, 12, 13, 14, 15, 16, 17, 18, 7, 5, 6, 19" (01, Refusal numbers)
 abbrev pub minuteOrder : List ℕ
 minuteOrder = 11 ∷ 12 ∷ 13 ∷ 14 ∷ 15 ∷ 16 ∷ 17 ∷ 18 ∷ 7 ∷ 5 ∷ 6 ∷ 19 ∷ []
 
 -- ---- strings
--- the lines of a string of each kind
+-- the lines of a string of a kind
 abbrev pub linesAs : Kind → List ℕ → List Line
-linesAs Standard s = standardLines s
-linesAs Pzf s = pzfLines s
-linesAs Gps s = gpsLines s
-linesAs Elv s = elvLines s
+linesAs kind s = kindRules kind .lines s
 
 -- "66 long is GPS; 32 long is standard [..], else PZF; 21 long is ELV; any other length is refused with 1." (01,
 -- Meinberg and ELV strings)
@@ -101,10 +92,7 @@ namedKind n = cond (eqb n 0) Standard (cond (eqb n 1) Pzf (cond (eqb n 2) Gps El
 
 -- how many numbers a reading of a kind has
 abbrev pub numberCount : Kind → ℕ
-numberCount Standard = 14
-numberCount Pzf = 14
-numberCount Gps = 17
-numberCount Elv = 14
+numberCount kind = kindRules kind .count
 
 -- 20: "lent memory: [..] a buffer too short to write to" (01, Refusal numbers): so many numbers are to be put
 abbrev pub roomFor : ℕ → List ℤ → Line

@@ -16,25 +16,14 @@ use Rattle.gregorian.specs.Date.{supportedDate}
 use Rattle.calendar.specs.UnixTime.{isReading}
 use Rattle.gregorian.proofs.RulesLaws.{supported-exactly}
 use Rattle.calendar.proofs.RulesLaws.{valid-exactly}
-use Rattle.meinberg_gps.specs.Gps.{gps}
-use Rattle.elv_dcf7000.specs.Elv.{elv}
 use Rattle.dcf77.specs.Minute.{minuteChecks}
-use Rattle.layout.proofs.LinesLaws.{agrees}
-use Rattle.meinberg_standard.specs.Standard.{standard}
-use Rattle.meinberg_standard.proofs.SaysLaws as standards
-use Rattle.meinberg_pzf.specs.Pzf.{pzf}
-use Rattle.meinberg_pzf.proofs.SaysLaws as pzfs
-use Rattle.meinberg_gps.proofs.SaysLaws as gpss
-use Rattle.elv_dcf7000.proofs.SaysLaws as elvs
 use Rattle.dcf77.proofs.LinesLaws as minutes
 use Rattle.recording.specs.Recording.{unfit, correctionChecks}
-use Rattle.time_string.specs.declared.Kind.{Kind}
-use Rattle.time_string.specs.declared.Kind.the-variants.{Standard, Pzf, Gps, Elv}
 use Rattle.dcf77.specs.Lines.{minuteLines}
 use Rattle.demands.specs.Lines.{linesAs, kindLines, outcomeLines, fillLines, correctionLines, instantLines}
 use Rattle.demands.specs.Lines.{dateLines, namedKind, numberCount, readLines, readMinuteLines, feedLines}
 use Rattle.demands.specs.Lines.{textOrder, ownNumbers, roomFor}
-use Rattle.demands.proofs.OrderLaws.{positive}
+use Rattle.demands.proofs.KindLaws.{kind-laws}
 use Rattle.demands.proofs.Checks.{checksAs, kindChecks, roomCheck, readChecks, readMinuteChecks}
 
 -- ---- tests and what they say
@@ -51,13 +40,6 @@ pub kind-agrees : (s : List ℕ) → Agree (kindChecks s) (kindLines s)
 kind-agrees s =
     let n = length s in
     (refl, none-exactly _ _ _ (eq-exactly n 66) (eq-exactly n 32) (eq-exactly n 21), λ p. tt)
-
-pub as-agrees : (kind : Kind) (s : List ℕ) → Agree (checksAs kind s) (linesAs kind s)
-unfolding standard pzf gps elv
-as-agrees Standard s = agrees standards.in-words s
-as-agrees Pzf s = agrees pzfs.in-words s
-as-agrees Gps s = agrees gpss.in-words s
-as-agrees Elv s = agrees elvs.in-words s
 
 -- ---- recordings
 pub outcome-agrees : (marks : List ℕ) (place : ℕ) →
@@ -92,7 +74,7 @@ pub read-agrees : (n : ℕ) (s : List ℕ) (fields : List ℤ) → Agree (readCh
 read-agrees n s fields = (
   refl,
   lt-exactly 3 n,
-  λ p. agree-append (checksAs (namedKind n) s) (linesAs (namedKind n) s) _ _ (as-agrees (namedKind n) s)
+  λ p. agree-append (checksAs (namedKind n) s) (linesAs (namedKind n) s) _ _ (kind-laws (namedKind n) .agree s)
       (λ q. room-agrees (numberCount (namedKind n)) fields),
 )
 
@@ -100,22 +82,9 @@ numbers-append : (ks ls : List Line) → numbersOf (ks ++ ls) ≡ numbersOf ks +
 numbers-append [] ls = refl
 numbers-append (k ∷ ks) ls = ap (λ (ns : List ℕ). k .number ∷ ns) (numbers-append ks ls)
 
-pub as-numbers : (kind : Kind) (s : List ℕ) → numbersOf (linesAs kind s) ≡ textOrder (ownNumbers kind)
-as-numbers Standard s = refl
-as-numbers Pzf s = refl
-as-numbers Gps s = refl
-as-numbers Elv s = refl
-
--- no number of these is 0
-pub text-positive : (kind : Kind) → positive (textOrder (ownNumbers kind)) ≡ true
-text-positive Standard = refl
-text-positive Pzf = refl
-text-positive Gps = refl
-text-positive Elv = refl
-
 pub read-numbers : (n : ℕ) (s : List ℕ) (fields : List ℤ)
     → numbersOf (readLines n s fields) ≡ 1 ∷ textOrder (ownNumbers (namedKind n)) ++ (20 ∷ [])
-read-numbers n s fields = rw (numbers-append (linesAs (namedKind n) s), as-numbers)
+read-numbers n s fields = rw (numbers-append (linesAs (namedKind n) s), kind-laws (namedKind n) .order s)
 
 pub read-minute-agrees : (m : List ℕ) (fields : List ℤ) → Agree (readMinuteChecks m fields) (readMinuteLines m fields)
 read-minute-agrees m fields =

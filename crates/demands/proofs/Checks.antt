@@ -6,29 +6,18 @@ use lib.Dec.{eqb, ltb}
 use lib.ListN.{length}
 use lib.IntN.{ℤ}
 use Rattle.clock_time.specs.Errors.{Check, given}
-use Rattle.layout.specs.Text.{textChecks}
-use Rattle.meinberg_standard.specs.Standard.{standard, standardFields}
-use Rattle.meinberg_pzf.specs.Pzf.{pzf, pzfFields}
-use Rattle.meinberg_gps.specs.Gps.{gps, gpsFields}
-use Rattle.elv_dcf7000.specs.Elv.{elv, elvFields}
 use Rattle.dcf77.specs.Minute.{minuteChecks}
-use Rattle.time_string.specs.Kind.{Reading, time, timeAndPosition}
+use Rattle.time_string.specs.Kind.{Reading}
 use Rattle.time_string.specs.declared.Kind.{Kind}
-use Rattle.time_string.specs.declared.Kind.the-variants.{Standard, Pzf, Gps, Elv}
 use Rattle.demands.specs.Lines.{namedKind, numberCount}
+use Rattle.demands.proofs.KindLaws.{kind-laws}
 
 abbrev pub checksAs : Kind → List ℕ → List Check
-checksAs Standard s = textChecks standard s
-checksAs Pzf s = textChecks pzf s
-checksAs Gps s = textChecks gps s
-checksAs Elv s = textChecks elv s
+checksAs kind s = kind-laws kind .checks s
 
 -- what is handed on if they pass
 abbrev pub readingAs : Kind → List ℕ → Reading
-readingAs Standard s = time (standardFields s)
-readingAs Pzf s = time (pzfFields s)
-readingAs Gps s = timeAndPosition (gpsFields s)
-readingAs Elv s = time (elvFields s)
+readingAs kind s = kind-laws kind .reading s
 
 abbrev pub kindChecks : List ℕ → List Check
 kindChecks s = given 1 (not (eqb (length s) 66 || eqb (length s) 32 || eqb (length s) 21)) ∷ []

@@ -17,16 +17,21 @@ use Rattle.gregorian.specs.Date.{supportedDate, dayNumber, weekdayOf}
 use Rattle.calendar.specs.UnixTime.{isReading, instantOf, unixTime}
 use Rattle.decimal.specs.Decimal.{value, firstNonDigit, digits, readDigits, writeDigits}
 use Rattle.layout.specs.Text.{clockChecks, textChecks, readText}
+use Rattle.layout.proofs.LinesLaws as text-lines
 use Rattle.meinberg_standard.specs.Standard.{standard, standardFields, readStandard, writeStandard}
 use Rattle.meinberg_standard.specs.Accepts.{AcceptsStandard}
+use Rattle.meinberg_standard.proofs.SaysLaws as standard-words
 use Rattle.meinberg_standard.proofs.Theorems as standards
 use Rattle.meinberg_pzf.specs.Pzf.{pzf, pzfFields, readPzf, writePzf}
 use Rattle.meinberg_pzf.specs.Accepts.{AcceptsPzf}
+use Rattle.meinberg_pzf.proofs.SaysLaws as pzf-words
 use Rattle.meinberg_pzf.proofs.Theorems as pzfs
 use Rattle.meinberg_gps.specs.Gps.{gps, gpsFields, readGps, writeGps}
 use Rattle.meinberg_gps.specs.declared.GpsTime.{GpsTime}
+use Rattle.meinberg_gps.proofs.SaysLaws as gps-words
 use Rattle.meinberg_gps.proofs.Theorems as gpss
 use Rattle.elv_dcf7000.specs.Elv.{elv, elvFields, readElv, writeElv}
+use Rattle.elv_dcf7000.proofs.SaysLaws as elv-words
 use Rattle.elv_dcf7000.proofs.Theorems as elvs
 use Rattle.dcf77.specs.Minute.{minuteChecks, minuteFields, readMinute, writeMinute}
 use Rattle.dcf77.specs.declared.MinuteTime.{MinuteTime}
@@ -45,7 +50,6 @@ use Rattle.meinberg_gps_position.specs.Rules.{positionLines}
 use Rattle.meinberg_gps_position.proofs.Theorems as positions
 use Rattle.time_string.specs.Kind.{kindOf, readAs}
 use Rattle.time_string.specs.declared.Kind.{Kind}
-use Rattle.time_string.specs.declared.Kind.the-variants.{Standard, Pzf, Gps, Elv}
 use Rattle.recording.specs.Recording.{rule, unfit, outcomeAt, fillOutcomes, recorded, correctionChecks, correctMark}
 use Rattle.listing_lines.specs.Line.{timeLine, writeLine}
 use Rattle.listing_lines.specs.Totals.{totalsLine, writeTotals}
@@ -62,7 +66,8 @@ use Rattle.demands.specs.Lines.{textOrder, ownNumbers, namedKind, minute
 use Rattle.demands.specs.Lines.{writerLines, outcomeLines}
 use Rattle.demands.specs.Lines.{fillLines, correctionLines, instantLines, dateLines, readLines, writeLines}
 use Rattle.demands.specs.Lines.{readMinuteLines, instantLinesOf, feedLines}
-use Rattle.demands.proofs.Checks.{checksAs, readingAs, kindChecks, readChecks, readMinuteChecks}
+use Rattle.demands.proofs.KindLaws.{kind-laws}
+use Rattle.demands.proofs.Checks.{kindChecks, readChecks, readMinuteChecks}
 use Rattle.demands.proofs.OrderLaws.{ordered, by-tests, keeps, decided, agree-tests, positive-append}
 use Rattle.demands.proofs.OrderLaws.{from-answer, from-memory, from-both}
 use Rattle.demands.proofs.WriterLaws.{settled, writer-keeps}
@@ -76,27 +81,29 @@ pub tell-kind : (s : List ℕ) → RefusesInOrder (kindLines s) (1 ∷ []) (kind
 tell-kind s =
     ordered (entry.toldKind s) (kindChecks s) (kindLines s) (agrees.kind-agrees s) (kindOf s) (entry.kind-checks s)
 
-pub read-by-kind : (kind : Kind) (s : List ℕ) → RefusesInOrder (linesAs kind s) (textOrder (ownNumbers kind)) (readAs kind s)
+pub read-by-kind : (kind : Kind) (s : List ℕ)
+    → RefusesInOrder (linesAs kind s) (textOrder (ownNumbers kind)) (readAs kind s)
 read-by-kind kind s =
-    rw (← (agrees.as-numbers kind s))
-    (ordered (readingAs kind s) (checksAs kind s) (linesAs kind s) (agrees.as-agrees kind s) (readAs kind s)
-    (entry.read-as-checks kind s))
+    let k = kind-laws kind in
+    rw (← (k .order s))
+    (ordered (k .reading s) (k .checks s) (linesAs kind s) (k .agree s) (readAs kind s) (k .read-checks s))
 
 pub read-standard : (s : List ℕ) → RefusesInOrder (standardLines s) (textOrder []) (readStandard s)
 unfolding readStandard readText standard
-read-standard s = ordered (standardFields s) (textChecks standard s) _ (agrees.as-agrees Standard s) _ refl
+read-standard s =
+    ordered (standardFields s) (textChecks standard s) _ (text-lines.agrees standard-words.in-words s) _ refl
 
 pub read-pzf : (s : List ℕ) → RefusesInOrder (pzfLines s) (textOrder []) (readPzf s)
 unfolding readPzf readText pzf
-read-pzf s = ordered (pzfFields s) (textChecks pzf s) _ (agrees.as-agrees Pzf s) _ refl
+read-pzf s = ordered (pzfFields s) (textChecks pzf s) _ (text-lines.agrees pzf-words.in-words s) _ refl
 
 pub read-gps : (s : List ℕ) → RefusesInOrder (gpsLines s) (textOrder (8 ∷ 9 ∷ [])) (readGps s)
 unfolding readGps readText gps
-read-gps s = ordered (gpsFields s) (textChecks gps s) _ (agrees.as-agrees Gps s) _ refl
+read-gps s = ordered (gpsFields s) (textChecks gps s) _ (text-lines.agrees gps-words.in-words s) _ refl
 
 pub read-elv : (s : List ℕ) → RefusesInOrder (elvLines s) (textOrder []) (readElv s)
 unfolding readElv readText elv
-read-elv s = ordered (elvFields s) (textChecks elv s) _ (agrees.as-agrees Elv s) _ refl
+read-elv s = ordered (elvFields s) (textChecks elv s) _ (text-lines.agrees elv-words.in-words s) _ refl
 
 pub write-standard : (t : ClockTime) (d : List ℕ) →
     RefusesAndKeeps (writerLines (λ s. AcceptsStandard s t) d) (23 ∷ 20 ∷ []) d (writeStandard t d)
@@ -136,7 +143,8 @@ pub fill-outcomes : (marks outcomes : List ℕ) →
 unfolding fillOutcomes
 fill-outcomes marks outcomes =
     keeps
-    (decided (given 20 (unfit (length marks) (length outcomes)) ∷ []) _ _ _ _ _ (agrees.fill-agrees marks outcomes) refl)
+    (decided (given 20 (unfit (length marks) (length outcomes)) ∷ []) _ _ _ _ _ (agrees.fill-agrees marks outcomes)
+    refl)
 
 pub correct-mark : (marks outcomes : List ℕ) (place mark : ℕ) →
     RefusesAndKeeps (correctionLines marks outcomes place mark) (20 ∷ 21 ∷ 22 ∷ []) (recorded marks outcomes)
@@ -188,7 +196,7 @@ pub c-read : (n : ℕ) (s : List ℕ) (fields : List ℤ) →
     (calledMemory (readInto n s fields))
 c-read n s fields =
     from-memory (readLines n s fields) _
-    (positive-append (textOrder (ownNumbers (namedKind n))) (20 ∷ []) (agrees.text-positive (namedKind n)) refl) fields
+    (positive-append (textOrder (ownNumbers (namedKind n))) (20 ∷ []) (kind-laws (namedKind n) .above-0) refl) fields
     (readInto n s fields)
     (rw (← (agrees.read-numbers n s fields))
     (keeps

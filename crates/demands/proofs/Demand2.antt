@@ -47,6 +47,7 @@ use Rattle.demands.specs.Exactly.{ReadsExactly, WritesExactly, CallAnswe
 use Rattle.demands.specs.Exactly.{CallWritesExactly}
 use Rattle.demands.specs.Instant.{InstantOf, InstantOfNumbers}
 use Rattle.demands.specs.Lines.{namedKind, numberCount}
+use Rattle.demands.proofs.KindLaws.{kind-laws}
 use Rattle.demands.proofs.ReaderLaws as reader
 use Rattle.demands.proofs.WriterLaws.{settled, writes-exactly, call-writes-exactly}
 use Rattle.demands.proofs.NumbersLaws as numbers
@@ -58,7 +59,7 @@ pub tell-kind : (s : List ℕ) → ReadsExactly (TellsKind s) (kindOf s)
 tell-kind = reader.tells-exactly
 
 pub read-by-kind : (kind : Kind) (s : List ℕ) → ReadsExactly (AcceptsAs kind s) (readAs kind s)
-read-by-kind = reader.as-exactly
+read-by-kind kind = kind-laws kind .exactly
 
 pub read-standard : (s : List ℕ) → ReadsExactly (AcceptsStandard s) (readStandard s)
 read-standard = standards.faithful .accepted-exactly

@@ -13,24 +13,20 @@ use Rattle.clock_time.specs.Exit.{leaves}
 use Rattle.calendar.specs.UnixTime.{isReading, instantOf, unixTime}
 use Rattle.decimal.specs.Decimal.{value, firstNonDigit, Placed, readDigits}
 use Rattle.layout.specs.Layout.{has}
-use Rattle.layout.specs.Text.{textChecks, readText}
-use Rattle.meinberg_standard.specs.Standard.{standard, standardFields, readStandard}
-use Rattle.meinberg_pzf.specs.Pzf.{pzf, pzfFields, readPzf}
-use Rattle.meinberg_gps.specs.Gps.{gps, gpsFields, readGps}
-use Rattle.elv_dcf7000.specs.Elv.{elv, elvFields, readElv}
-use Rattle.time_string.specs.Kind.{kindOf, kindNumber, kindNamed, timeOnly, located, time, timeAndPosition, readAs}
+use Rattle.time_string.specs.Kind.{kindOf, kindNumber, kindNamed, readAs}
 use Rattle.time_string.proofs.KindLaws.{kind-unknown}
 use Rattle.time_string.specs.declared.Kind.{Kind}
 use Rattle.time_string.specs.declared.Kind.the-variants.{Standard, Pzf, Gps, Elv}
 use Rattle.dcf77.specs.Minute.{minuteChecks, minuteFields, readMinute}
-use Rattle.c_numbers.specs.Numbers.{timeNumbers, gpsNumbers, minuteNumbers, putNumbers, putAnswer}
+use Rattle.c_numbers.specs.Numbers.{timeNumbers, minuteNumbers, putNumbers, putAnswer}
 use Rattle.c_fields.specs.Ranges.{timeRanges, fits, timeFrom, numbered}
 use Rattle.c_readings.specs.Strings.{kindNumberOf, readingNumbers, readNumbered, readInto, unixTimeOf}
 use Rattle.c_readings.specs.Minutes.{readMinuteInto}
 use Rattle.demands.specs.Lines.{namedKind, numberCount}
+use Rattle.demands.proofs.KindLaws.{kind-laws}
 use Rattle.demands.proofs.Checks.{checksAs, readingAs, kindChecks, kindCheck, roomCheck, readChecks}
 use Rattle.demands.proofs.Checks.{readMinuteChecks}
-use Rattle.demands.proofs.OrderLaws.{checked-map, then-checked, then-leaves}
+use Rattle.demands.proofs.OrderLaws.{then-checked, then-leaves}
 
 -- ---- the kind of a string
 abbrev pub toldKind : List ℕ → Kind
@@ -65,27 +61,13 @@ kind-named (suc (suc (suc (suc n)))) =
     let h : 3 < suc (suc (suc (suc n))) = omega arith in kind-unknown _ h ∙ rw (lt-ltb 3 _ h)
 
 -- ---- reading strings
-pub read-as-checks : (kind : Kind) (s : List ℕ) → readAs kind s ≡ checked (checksAs kind s) (readingAs kind s)
-unfolding readAs readStandard readPzf readGps readElv readText standard pzf gps elv
-read-as-checks Standard s = checked-map timeOnly time (λ a. refl) (λ n. refl) (textChecks standard s) (standardFields s)
-read-as-checks Pzf s = checked-map timeOnly time (λ a. refl) (λ n. refl) (textChecks pzf s) (pzfFields s)
-read-as-checks Gps s = checked-map located timeAndPosition (λ a. refl) (λ n. refl) (textChecks gps s) (gpsFields s)
-read-as-checks Elv s = checked-map timeOnly time (λ a. refl) (λ n. refl) (textChecks elv s) (elvFields s)
-
 pub read-numbered-checks : (n : ℕ) (s : List ℕ)
     → readNumbered n s ≡ checked (kindCheck n ∷ checksAs (namedKind n) s) (readingAs (namedKind n) s)
 unfolding readNumbered
 read-numbered-checks n s =
     rw (kind-named n)
     (then-checked (namedKind n) (readingAs (namedKind n) s) (checksAs (namedKind n) s) (λ kind. readAs kind s)
-    (read-as-checks (namedKind n) s) (kindCheck n ∷ []))
-
-numbers-long : (kind : Kind) (s : List ℕ) → length (readingNumbers (readingAs kind s)) ≡ numberCount kind
-unfolding timeNumbers gpsNumbers
-numbers-long Standard s = refl
-numbers-long Pzf s = refl
-numbers-long Gps s = refl
-numbers-long Elv s = refl
+    (kind-laws (namedKind n) .read-checks s) (kindCheck n ∷ []))
 
 -- numbers in front of those lent
 abbrev pub inFront : List ℤ → List ℤ → List ℤ
@@ -105,7 +87,7 @@ read-checks n s fields =
     rw (read-numbered-checks n s)
     (then-leaves a tt (roomCheck (numberCount (namedKind n)) fields ∷ []) fields (inFront (readingNumbers a) fields)
     (λ x. putNumbers (readingNumbers x) fields)
-    (put-checks readingNumbers fields a (numberCount (namedKind n)) (numbers-long (namedKind n) s))
+    (put-checks readingNumbers fields a (numberCount (namedKind n)) (kind-laws (namedKind n) .long s))
     (kindCheck n ∷ checksAs (namedKind n) s))
 
 -- ---- minutes

@@ -1,11 +1,12 @@
 -- The three demands, and the laws that they cite.
 pub mod OrderLaws
 pub mod WriterLaws
+pub mod FitsLaws
+pub mod KindLaws
 pub mod Checks
 pub mod EntryLaws
 pub mod AgreeLaws
 pub mod ReaderLaws
-pub mod FitsLaws
 pub mod NumbersLaws
 pub mod InstantLaws
 pub mod NeverLaws

@@ -11,7 +11,9 @@ use Rattle.dcf77.specs.Minute.{readMinute}
 use Rattle.c_fields.specs.Ranges.{timeFrom}
 use Rattle.time_string.specs.Kind.{kindNumber}
 use Rattle.c_readings.specs.Strings.{kindNumberOf, readNumbered, unixTimeOf}
-use Rattle.demands.specs.Lines.{textOrder, ownNumbers, minuteOrder, kindLines, linesAs, unknownKind, namedKind, instantLinesOf}
+use Rattle.demands.specs.Lines.{textOrder, ownNumbers, minuteOrder, kindLines, linesAs, unknownKind, namedKind}
+use Rattle.demands.specs.Lines.{instantLinesOf}
+use Rattle.demands.proofs.KindLaws.{kind-laws}
 use Rattle.demands.proofs.Checks.{checksAs, readingAs, kindCheck, kindChecks}
 use Rattle.demands.proofs.EntryLaws as entry
 use Rattle.demands.proofs.AgreeLaws as agrees
@@ -28,11 +30,11 @@ kind-0 s =
 pub read-0 : (n : ℕ) (s : List ℕ) → readNumbered n s ≡ refused 0 → ⊥
 read-0 n s =
     never-0 (unknownKind n ∷ linesAs (namedKind n) s) (1 ∷ textOrder (ownNumbers (namedKind n)))
-    (agrees.text-positive (namedKind n)) (readNumbered n s)
-    (rw (← (agrees.as-numbers (namedKind n) s))
+    (kind-laws (namedKind n) .above-0) (readNumbered n s)
+    (rw (← (kind-laws (namedKind n) .order s))
     (ordered (readingAs (namedKind n) s) (kindCheck n ∷ checksAs (namedKind n) s)
     (unknownKind n ∷ linesAs (namedKind n) s)
-    (refl, lt-exactly 3 n, λ p. agrees.as-agrees (namedKind n) s) (readNumbered n s)
+    (refl, lt-exactly 3 n, λ p. kind-laws (namedKind n) .agree s) (readNumbered n s)
     (entry.read-numbered-checks n s)))
 
 pub minute-0 : (m : List ℕ) → readMinute m ≡ refused 0 → ⊥
@@ -41,5 +43,5 @@ minute-0 m = never-0 _ minuteOrder refl (readMinute m) (demand-1.read-minute m)
 pub instant-0 : (z : List ℤ) → unixTimeOf z ≡ refused 0 → ⊥
 instant-0 z =
     never-0 _ (23 ∷ []) refl (unixTimeOf z)
-    (ordered (instantOf (timeFrom z)) (given 23 (not (instants.ofValid z)) ∷ []) (instantLinesOf z) (instants.numbers-agree z) (unixTimeOf z)
-    (instants.numbers-checks z))
+    (ordered (instantOf (timeFrom z)) (given 23 (not (instants.ofValid z)) ∷ []) (instantLinesOf z)
+    (instants.numbers-agree z) (unixTimeOf z) (instants.numbers-checks z))

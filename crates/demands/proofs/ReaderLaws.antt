@@ -13,28 +13,17 @@ use Prim.Native.Char.{code}
 use borrow.Author.Tests.{eqb-true, eqb-false, ne-eqb}
 use Rattle.clock_time.specs.Errors.{Answer, accepted, refused}
 use Rattle.clock_time.specs.Called.{Called, called, calledAnswer, calledMemory, andThen}
-use Rattle.clock_time.specs.declared.ClockTime.{ClockTime}
 use Rattle.clock_time.proofs.ErrorLaws.{apart}
-use Rattle.meinberg_gps.specs.declared.GpsTime.{GpsTime}
-use Rattle.meinberg_standard.specs.Standard.{readStandard}
-use Rattle.meinberg_standard.proofs.Theorems as standards
-use Rattle.meinberg_pzf.specs.Pzf.{readPzf}
-use Rattle.meinberg_pzf.proofs.Theorems as pzfs
-use Rattle.meinberg_gps.specs.Gps.{readGps}
-use Rattle.meinberg_gps.proofs.Theorems as gpss
-use Rattle.elv_dcf7000.specs.Elv.{readElv}
-use Rattle.elv_dcf7000.proofs.Theorems as elvs
-use Rattle.time_string.specs.Kind.{Reading, time, timeAndPosition, timeOnly, located, kindOf, readAs}
-use Rattle.time_string.specs.Kind.{kindNumber, kindNamed}
+use Rattle.time_string.specs.Kind.{kindOf, kindNumber, kindNamed, readAs}
 use Rattle.time_string.proofs.KindLaws.{named-number, kind-unknown}
 use Rattle.time_string.specs.declared.Kind.{Kind}
 use Rattle.time_string.specs.declared.Kind.the-variants.{Standard, Pzf, Gps, Elv}
 use Rattle.c_numbers.specs.Numbers.{putAnswer}
 use Rattle.c_numbers.proofs.NumberLaws.{put-no-room, put-room}
 use Rattle.c_readings.specs.Strings.{kindNumberOf, readNumbered}
-use Rattle.demands.specs.Kinds.{Hands}
-use Rattle.demands.specs.Accepted.{TellsKind, AcceptsAs, AcceptsNumbered}
+use Rattle.demands.specs.Accepted.{TellsKind, AcceptsNumbered}
 use Rattle.demands.specs.Exactly.{ReadsExactly, CallAnswersExactly, CallReadsExactly}
+use Rattle.demands.proofs.KindLaws.{kind-laws}
 
 -- ---- the kind of a string
 pub tells-exactly : (s : List ℕ) → ReadsExactly (TellsKind s) (kindOf s)
@@ -79,43 +68,11 @@ pub kind-number-exactly : (s : List ℕ)
     → ReadsExactly (λ n. (kind : Kind) × (TellsKind s kind × (n ≡ kindNumber kind))) (kindNumberOf s)
 unfolding kindNumberOf
 kind-number-exactly s =
-    then-exactly (λ k. accepted (kindNumber k)) (λ k n. (λ h. cc, λ e. ap accepted (sym e))) (kindOf s) (tells-exactly s)
+    then-exactly (λ k. accepted (kindNumber k)) (λ k n. (λ h. cc, λ e. ap accepted (sym e))) (kindOf s)
+    (tells-exactly s)
 
--- ---- by kind
-pub time-only-time : (a : Answer ClockTime) (r : Reading) → timeOnly a ≡ accepted r
-    → (t : ClockTime) × (a ≡ accepted t) × (r ≡ time t)
-time-only-time (accepted t) r h = (t, refl, cc)
-time-only-time (refused k) r h = apart (sym h)
-
-pub located-time : (a : Answer GpsTime) (r : Reading) → located a ≡ accepted r
-    → (g : GpsTime) × (a ≡ accepted g) × (r ≡ timeAndPosition g)
-located-time (accepted g) r h = (g, refl, cc)
-located-time (refused k) r h = apart (sym h)
-
--- a format's reader, whose answer is handed on as a reading
-module _
-    {A : Type 0} (wrap : Answer A → Answer Reading) (say : A → Reading)
-    (wrapped : (t : A) → wrap (accepted t) ≡ accepted (say t))
-    (unwrapped : (a : Answer A) (r : Reading) → wrap a ≡ accepted r → (t : A) × (a ≡ accepted t) × (r ≡ say t))
-  where
-    handed : {Accepts : A → Type 0} (answer : Answer A) → ReadsExactly Accepts answer
-        → ReadsExactly (Hands say Accepts) (wrap answer)
-    handed answer exact r = (
-      λ h. let w = unwrapped answer r h in (w .0, (exact (w .0) .0 (w .1), w .2)),
-      λ h. rw (exact (h .0) .1 (h .1 .0), h .1 .1) (wrapped (h .0)),
-    )
-
-pub as-exactly : (kind : Kind) (s : List ℕ) → ReadsExactly (AcceptsAs kind s) (readAs kind s)
-unfolding readAs
-as-exactly Standard s =
-    handed timeOnly time (λ t. refl) time-only-time (readStandard s) (standards.faithful .accepted-exactly s)
-as-exactly Pzf s = handed timeOnly time (λ t. refl) time-only-time (readPzf s) (pzfs.faithful .accepted-exactly s)
-as-exactly Gps s =
-    handed located timeAndPosition (λ t. refl) located-time (readGps s) (gpss.faithful .accepted-exactly s)
-as-exactly Elv s = handed timeOnly time (λ t. refl) time-only-time (readElv s) (elvs.faithful .accepted-exactly s)
-
--- by the kind that a number names
-named-exactly : (n : ℕ) → ReadsExactly (λ kind. n ≡ kindNumber kind) (kindNamed n)
+-- ---- by the kind that a number names
+pub named-exactly : (n : ℕ) → ReadsExactly (λ kind. n ≡ kindNumber kind) (kindNamed n)
 unfolding kindNamed
 named-exactly n kind = (named n, λ e. rw e (named-number kind))
   where
@@ -131,7 +88,8 @@ named-exactly n kind = (named n, λ e. rw e (named-number kind))
 
 pub numbered-exactly : (n : ℕ) (s : List ℕ) → ReadsExactly (AcceptsNumbered n s) (readNumbered n s)
 unfolding readNumbered
-numbered-exactly n s = then-exactly (λ kind. readAs kind s) (λ kind. as-exactly kind s) (kindNamed n) (named-exactly n)
+numbered-exactly n s =
+    then-exactly (λ kind. readAs kind s) (λ kind. kind-laws kind .exactly s) (kindNamed n) (named-exactly n)
 
 -- ---- what a call leaves
 -- behind a pointer; no refusal has the number 0

@@ -42,7 +42,8 @@ abbrev pub kindLines : List ℕ → List Line
 kindLines s = line 1 ((length s ≡ 66 → ⊥) × (length s ≡ 32 → ⊥) × (length s ≡ 21 → ⊥)) ∷ []
 
 -- ---- writers
--- "For a writer: 23, 20" (01, Refusal numbers); `Reads s` says that the string or run s is read as what is to be written
+-- "For a writer: 23, 20" (01, Refusal numbers); `Reads s` says that the string or run s is read as what is to
+-- be written
 abbrev pub writerLines : (List ℕ → Type 0) → List ℕ → List Line
 writerLines Reads buffer =
     -- "reading that no accepted string or minute of this format gives"

@@ -20,8 +20,9 @@ use Rattle.dcf77.specs.Minute.{minuteChecks}
 use Rattle.dcf77.proofs.LinesLaws as minutes
 use Rattle.recording.specs.Recording.{unfit, correctionChecks}
 use Rattle.dcf77.specs.Lines.{minuteLines}
+use Rattle.time_string.specs.Kind.{namedKind}
 use Rattle.demands.specs.Lines.{linesAs, kindLines, outcomeLines, fillLines, correctionLines, instantLines}
-use Rattle.demands.specs.Lines.{dateLines, namedKind, numberCount, readLines, readMinuteLines, feedLines}
+use Rattle.demands.specs.Lines.{dateLines, numberCount, readLines, readMinuteLines, feedLines}
 use Rattle.demands.specs.Lines.{textOrder, ownNumbers, roomFor}
 use Rattle.demands.proofs.KindLaws.{kind-laws}
 use Rattle.demands.proofs.Checks.{checksAs, kindChecks, roomCheck, readChecks, readMinuteChecks}

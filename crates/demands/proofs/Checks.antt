@@ -7,9 +7,9 @@ use lib.ListN.{length}
 use lib.IntN.{ℤ}
 use Rattle.clock_time.specs.Errors.{Check, given}
 use Rattle.dcf77.specs.Minute.{minuteChecks}
-use Rattle.time_string.specs.Kind.{Reading}
+use Rattle.time_string.specs.Kind.{namedKind, Reading}
 use Rattle.time_string.specs.declared.Kind.{Kind}
-use Rattle.demands.specs.Lines.{namedKind, numberCount}
+use Rattle.demands.specs.Lines.{numberCount}
 use Rattle.demands.proofs.KindLaws.{kind-laws}
 
 abbrev pub checksAs : Kind → List ℕ → List Check

@@ -48,7 +48,7 @@ use Rattle.dcf77.specs.Accepts.{AcceptsMinute}
 use Rattle.meinberg_gps_position.specs.Position.{positionFault, positionOf, readPosition}
 use Rattle.meinberg_gps_position.specs.Rules.{positionLines}
 use Rattle.meinberg_gps_position.proofs.Theorems as positions
-use Rattle.time_string.specs.Kind.{kindOf, readAs}
+use Rattle.time_string.specs.Kind.{kindOf, namedKind, readAs}
 use Rattle.time_string.specs.declared.Kind.{Kind}
 use Rattle.recording.specs.Recording.{rule, unfit, outcomeAt, fillOutcomes, recorded, correctionChecks, correctMark}
 use Rattle.listing_lines.specs.Line.{timeLine, writeLine}
@@ -62,7 +62,7 @@ use Rattle.c_readings.specs.Minutes.{readMinuteInto}
 use Rattle.c_feed.specs.Feed.{FeedMemory, feedInto}
 use Rattle.demands.specs.Refusals.{tests, RefusesInOrder, RefusesAndKeeps, CallRefusesAndKeeps}
 use Rattle.demands.specs.Accepted.{AcceptsMinuteNumbers}
-use Rattle.demands.specs.Lines.{textOrder, ownNumbers, namedKind, minuteOrder, linesAs, kindLines}
+use Rattle.demands.specs.Lines.{textOrder, ownNumbers, minuteOrder, linesAs, kindLines}
 use Rattle.demands.specs.Lines.{writerLines, outcomeLines}
 use Rattle.demands.specs.Lines.{fillLines, correctionLines, instantLines, dateLines, readLines, writeLines}
 use Rattle.demands.specs.Lines.{readMinuteLines, instantLinesOf, feedLines}

@@ -36,7 +36,7 @@ use Rattle.elv_dcf7000.specs.Accepts.{AcceptsElv}
 use Rattle.dcf77.specs.Accepts.{AcceptsMinute}
 use Rattle.gregorian.specs.Days.{DayAfter, OnWeekday}
 use Rattle.gregorian.proofs.Theorems as days
-use Rattle.time_string.specs.Kind.{Reading, readingTime, kindOf, kindNumber, readAs}
+use Rattle.time_string.specs.Kind.{Reading, readingTime, kindOf, kindNumber, namedKind, readAs}
 use Rattle.time_string.specs.declared.Kind.{Kind}
 use Rattle.c_numbers.specs.Numbers.{minuteNumbers}
 use Rattle.c_writer.specs.Writers.{writeFrom, writeMinuteFrom}
@@ -46,7 +46,7 @@ use Rattle.demands.specs.Accepted.{TellsKind, AcceptsAs, AcceptsNumbered
 use Rattle.demands.specs.Exactly.{ReadsExactly, WritesExactly, CallAnswersExactly, CallReadsExactly}
 use Rattle.demands.specs.Exactly.{CallWritesExactly}
 use Rattle.demands.specs.Instant.{InstantOf, InstantOfNumbers}
-use Rattle.demands.specs.Lines.{namedKind, numberCount}
+use Rattle.demands.specs.Lines.{numberCount}
 use Rattle.demands.proofs.KindLaws.{kind-laws}
 use Rattle.demands.proofs.ReaderLaws as reader
 use Rattle.demands.proofs.WriterLaws.{settled, writes-exactly, call-writes-exactly}

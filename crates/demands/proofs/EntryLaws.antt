@@ -1,20 +1,17 @@
 -- Each reader's definition is its checks, in their order, and then what it gives.
-use Prim.Native.Nat.{ℕ, zero, suc, _<_}
-use native.Mathlib.Omega.{arith}
-use mathlib.Core.Path.{_≡_, refl, _∙_}
+use Prim.Native.Nat.{ℕ}
+use mathlib.Core.Path.{_≡_, refl}
 use mathlib.Core.Bool.{Bool, true, false, cond, not, _||_}
 use mathlib.Core.List.{List, [], _∷_, _++_}
 use lib.Dec.{eqb, ltb}
 use lib.ListN.{length, drop}
 use lib.IntN.{ℤ}
-use borrow.Author.Tests.{lt-ltb}
 use Rattle.clock_time.specs.Errors.{Answer, accepted, refused, given, checked}
 use Rattle.clock_time.specs.Exit.{leaves}
 use Rattle.calendar.specs.UnixTime.{isReading, instantOf, unixTime}
 use Rattle.decimal.specs.Decimal.{value, firstNonDigit, Placed, readDigits}
 use Rattle.layout.specs.Layout.{has}
-use Rattle.time_string.specs.Kind.{kindOf, kindNumber, kindNamed, readAs}
-use Rattle.time_string.proofs.KindLaws.{kind-unknown}
+use Rattle.time_string.specs.Kind.{kindOf, kindNumber, kindNamed, namedKind, readAs}
 use Rattle.time_string.specs.declared.Kind.{Kind}
 use Rattle.time_string.specs.declared.Kind.the-variants.{Standard, Pzf, Gps, Elv}
 use Rattle.dcf77.specs.Minute.{minuteChecks, minuteFields, readMinute}
@@ -22,7 +19,7 @@ use Rattle.c_numbers.specs.Numbers.{timeNumbers, minuteNumbers, putNumbers, put
 use Rattle.c_fields.specs.Ranges.{timeRanges, fits, timeFrom, numbered}
 use Rattle.c_readings.specs.Strings.{kindNumberOf, readingNumbers, readNumbered, readInto, unixTimeOf}
 use Rattle.c_readings.specs.Minutes.{readMinuteInto}
-use Rattle.demands.specs.Lines.{namedKind, numberCount}
+use Rattle.demands.specs.Lines.{numberCount}
 use Rattle.demands.proofs.KindLaws.{kind-laws}
 use Rattle.demands.proofs.Checks.{checksAs, readingAs, kindChecks, kindCheck, roomCheck, readChecks}
 use Rattle.demands.proofs.Checks.{readMinuteChecks}
@@ -53,12 +50,7 @@ kind-number-checks s =
 
 pub kind-named : (n : ℕ) → kindNamed n ≡ checked (kindCheck n ∷ []) (namedKind n)
 unfolding kindNamed
-kind-named zero = refl
-kind-named (suc zero) = refl
-kind-named (suc (suc zero)) = refl
-kind-named (suc (suc (suc zero))) = refl
-kind-named (suc (suc (suc (suc n)))) =
-    let h : 3 < suc (suc (suc (suc n))) = omega arith in kind-unknown _ h ∙ rw (lt-ltb 3 _ h)
+kind-named n = refl
 
 -- ---- reading strings
 pub read-numbered-checks : (n : ℕ) (s : List ℕ)

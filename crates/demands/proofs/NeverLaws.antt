@@ -9,9 +9,9 @@ use Rattle.clock_time.proofs.ExactLaws.{lt-exactly}
 use Rattle.calendar.specs.UnixTime.{instantOf}
 use Rattle.dcf77.specs.Minute.{readMinute}
 use Rattle.c_fields.specs.Ranges.{timeFrom}
-use Rattle.time_string.specs.Kind.{kindNumber}
+use Rattle.time_string.specs.Kind.{kindNumber, namedKind}
 use Rattle.c_readings.specs.Strings.{kindNumberOf, readNumbered, unixTimeOf}
-use Rattle.demands.specs.Lines.{textOrder, ownNumbers, minuteOrder, kindLines, linesAs, unknownKind, namedKind}
+use Rattle.demands.specs.Lines.{textOrder, ownNumbers, minuteOrder, kindLines, linesAs, unknownKind}
 use Rattle.demands.specs.Lines.{instantLinesOf}
 use Rattle.demands.proofs.KindLaws.{kind-laws}
 use Rattle.demands.proofs.Checks.{checksAs, readingAs, kindCheck, kindChecks}

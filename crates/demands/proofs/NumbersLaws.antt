@@ -16,7 +16,7 @@ use Rattle.calendar.specs.Rules.{ValidReading}
 use Rattle.dcf77.specs.Minute.{writeMinute}
 use Rattle.dcf77.specs.declared.MinuteTime.{MinuteTime}
 use Rattle.dcf77.proofs.Theorems as minutes
-use Rattle.time_string.specs.Kind.{kindNumber, Reading, time, timeAndPosition, readingTime}
+use Rattle.time_string.specs.Kind.{kindNumber, namedKind, Reading, time, timeAndPosition, readingTime}
 use Rattle.time_string.specs.declared.Kind.{Kind}
 use Rattle.c_numbers.specs.Numbers.{timeNumbers, gpsNumbers, minuteNumbers}
 use Rattle.c_fields.specs.Ranges.{minuteOf}
@@ -24,7 +24,7 @@ use Rattle.c_fields.proofs.Theorems as fields
 use Rattle.c_writer.specs.Writers.{writeAs, writeFrom, writeMinuteFrom}
 use Rattle.c_readings.specs.Strings.{readingNumbers}
 use Rattle.demands.specs.Accepted.{AcceptsAs, AcceptsNumbered, AcceptsNumbers, AcceptsMinuteNumbers}
-use Rattle.demands.specs.Lines.{namedKind, numberCount, writeLines}
+use Rattle.demands.specs.Lines.{numberCount, writeLines}
 use Rattle.demands.specs.Exactly.{WritesExactly, CallWritesExactly}
 use Rattle.demands.proofs.OrderLaws.{Decided, decided-after}
 use Rattle.demands.proofs.WriterLaws.{Settled, settled, settled-same, writer-decided, numbers-settled}

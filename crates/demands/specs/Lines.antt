@@ -2,9 +2,7 @@
 use Prim.Native.Nat.{ℕ, _≤_, _<_}
 use mathlib.Core.Path.{_≡_}
 use mathlib.Core.Logic.{_⊎_}
-use mathlib.Core.Bool.{cond}
 use mathlib.Core.List.{List, [], _∷_, _++_}
-use lib.Dec.{eqb}
 use lib.ListN.{length, take}
 use lib.IntN.{ℤ}
 use Rattle.clock_time.specs.Order.{Line, line}
@@ -12,8 +10,8 @@ use Rattle.clock_time.specs.declared.ClockTime.{ClockTime}
 use Rattle.gregorian.specs.Rules.{GregorianDate}
 use Rattle.calendar.specs.Rules.{ValidReading}
 use Rattle.dcf77.specs.Lines.{minuteLines}
+use Rattle.time_string.specs.Kind.{namedKind}
 use Rattle.time_string.specs.declared.Kind.{Kind}
-use Rattle.time_string.specs.declared.Kind.the-variants.{Standard, Pzf, Gps, Elv}
 use Rattle.c_numbers.specs.Numbers.{timeNumbers}
 use Rattle.demands.specs.Kinds.{kindRules}
 use Rattle.demands.specs.Accepted.{AcceptsNumbers}
@@ -86,10 +84,6 @@ dateLines year month day = line 5 ((1970 ≤ year) × (year ≤ 2069) × Gregori
 -- "an unknown kind number from C gives 1" (01, Meinberg and ELV strings)
 abbrev pub unknownKind : ℕ → Line
 unknownKind n = line 1 (3 < n)
-
--- the kind that a number from 0 to 3 names, in the order of 01's list
-abbrev pub namedKind : ℕ → Kind
-namedKind n = cond (eqb n 0) Standard (cond (eqb n 1) Pzf (cond (eqb n 2) Gps Elv))
 
 -- how many numbers a reading of a kind has
 abbrev pub numberCount : Kind → ℕ

@@ -1,8 +1,7 @@
 -- Laws of the kinds' numbers.
 use Prim.Native.Nat.{ℕ, _<_}
-use native.Mathlib.Omega.{arith}
 use mathlib.Core.Path.{_≡_, refl}
-use borrow.Author.Tests.{ne-eqb}
+use borrow.Author.Tests.{lt-ltb}
 use Rattle.clock_time.specs.Errors.{accepted, refused}
 use Rattle.time_string.specs.Kind.{kindNumber, kindNamed}
 use Rattle.time_string.specs.declared.Kind.{Kind}
@@ -18,10 +17,4 @@ named-number Elv = refl
 
 pub kind-unknown : (n : ℕ) → 3 < n → kindNamed n ≡ refused 1
 unfolding kindNamed
-kind-unknown n h =
-    simp (
-      ne-eqb n 0 (λ e. omega (arith, e)),
-      ne-eqb n 1 (λ e. omega (arith, e)),
-      ne-eqb n 2 (λ e. omega (arith, e)),
-      ne-eqb n 3 (λ e. omega (arith, e)),
-    )
+kind-unknown n h = rw (lt-ltb 3 n h)

@@ -1,10 +1,10 @@
 -- The kind of a time string, its number in C, and reading by kind.
 use Prim.Native.Nat.{ℕ}
 use mathlib.Core.Bool.{cond}
-use mathlib.Core.List.{List}
-use lib.Dec.{eqb}
+use mathlib.Core.List.{List, [], _∷_}
+use lib.Dec.{eqb, ltb}
 use lib.ListN.{length}
-use Rattle.clock_time.specs.Errors.{Answer, accepted, refused, errorNumber}
+use Rattle.clock_time.specs.Errors.{Answer, accepted, refused, errorNumber, given, checked}
 use Rattle.clock_time.specs.declared.ClockTime.{ClockTime}
 use Rattle.layout.specs.Layout.{has}
 use Rattle.meinberg_standard.specs.Standard.{readStandard}
@@ -40,14 +40,13 @@ kindNumber Pzf = 1
 kindNumber Gps = 2
 kindNumber Elv = 3
 
+-- the kind that a number from 0 to 3 names, in the order of 01's list
+abbrev pub namedKind : ℕ → Kind
+namedKind n = cond (eqb n 0) Standard (cond (eqb n 1) Pzf (cond (eqb n 2) Gps Elv))
+
 -- "an unknown kind number from C gives 1" (01, Meinberg and ELV strings)
 unfoldable pub kindNamed : ℕ → Answer Kind
-kindNamed n =
-    cond (eqb n 0) (accepted Standard)
-    (cond (eqb n 1) (accepted Pzf)
-    (cond (eqb n 2) (accepted Gps)
-    (cond (eqb n 3) (accepted Elv)
-    (refused 1))))
+kindNamed n = checked (given 1 (ltb 3 n) ∷ []) (namedKind n)
 
 -- "A GPS string adds position and height" (01, The reading)
 pub data Reading : Type 0 where

@@ -18,7 +18,7 @@ fn kind_number(k: Kind) -> u8
     }
 }
 
-// EventSays the kind of a string: its number is left behind `kind`, or 1 is returned.
+// Leaves the number of the string's kind behind `kind`. Refuses with Length (1) if no kind has that length.
 #[no_mangle]
 pub extern "C" fn radio_clock_kind(s: &[u8], kind: &mut u8) -> u8
     ensures { λ r. ⌜ called r (now (kind .exit)) ≡ calledAnswer (now (kind .entry)) (kindNumberOf (now (s .entry))) ⌝ }

@@ -7,6 +7,7 @@ use mathlib.Core.List.{List, [], _∷_, _++_}
 use lib.Dec.{leb, ltb}
 use lib.ListN.{length}
 use lib.IntN.{ℤ}
+use Rattle.c_numbers.specs.Numbers.{minuteCount}
 use Rattle.clock_time.specs.Errors.{given}
 use Rattle.clock_time.specs.Order.{Line, numbersOf}
 use Rattle.clock_time.specs.declared.ClockTime.{ClockTime}
@@ -89,7 +90,7 @@ read-numbers n s fields = rw (numbers-append (linesAs (namedKind n) s), kind-law
 
 pub read-minute-agrees : (m : List ℕ) (fields : List ℤ) → Agree (readMinuteChecks m fields) (readMinuteLines m fields)
 read-minute-agrees m fields =
-    agree-append (minuteChecks m) (minuteLines m) _ _ (minutes.agrees m) (λ q. room-agrees 16 fields)
+    agree-append (minuteChecks m) (minuteLines m) _ _ (minutes.agrees m) (λ q. room-agrees minuteCount fields)
 
 pub feed-agrees : (state : List ℕ) → Agree (given 20 (ltb (length state) 68) ∷ []) (feedLines state)
 feed-agrees state = (refl, lt-exactly _ _, λ p. tt)

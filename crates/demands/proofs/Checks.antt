@@ -5,6 +5,7 @@ use mathlib.Core.List.{List, [], _∷_, _++_}
 use lib.Dec.{eqb, ltb}
 use lib.ListN.{length}
 use lib.IntN.{ℤ}
+use Rattle.c_numbers.specs.Numbers.{minuteCount}
 use Rattle.clock_time.specs.Errors.{Check, given}
 use Rattle.dcf77.specs.Minute.{minuteChecks}
 use Rattle.time_string.specs.Kind.{namedKind, Reading}
@@ -32,4 +33,4 @@ abbrev pub readChecks : ℕ → List ℕ → List ℤ → List Check
 readChecks n s fields = kindCheck n ∷ checksAs (namedKind n) s ++ (roomCheck (numberCount (namedKind n)) fields ∷ [])
 
 abbrev pub readMinuteChecks : List ℕ → List ℤ → List Check
-readMinuteChecks m fields = minuteChecks m ++ (roomCheck 16 fields ∷ [])
+readMinuteChecks m fields = minuteChecks m ++ (roomCheck minuteCount fields ∷ [])

@@ -38,7 +38,7 @@ use Rattle.gregorian.specs.Days.{DayAfter, OnWeekday}
 use Rattle.gregorian.proofs.Theorems as days
 use Rattle.time_string.specs.Kind.{Reading, readingTime, kindOf, kindNumber, namedKind, readAs}
 use Rattle.time_string.specs.declared.Kind.{Kind}
-use Rattle.c_numbers.specs.Numbers.{minuteNumbers}
+use Rattle.c_numbers.specs.Numbers.{minuteNumbers, minuteCount}
 use Rattle.c_writer.specs.Writers.{writeFrom, writeMinuteFrom}
 use Rattle.c_readings.specs.Strings.{kindNumberOf, readingNumbers, readInto, unixTimeOf}
 use Rattle.c_readings.specs.Minutes.{readMinuteInto}
@@ -155,10 +155,10 @@ c-round-trip n s fields z h d old room =
 
 pub c-minute-round-trip : (m : List ℕ) (fields z : List ℤ) → calledMemory (readMinuteInto m fields) ≡ called 0 z
     → (d : List ℕ) (old : ℕ) → length m ≤ length d
-    → calledBoth old (writeMinuteFrom (take 16 z) d) ≡ called 0 (m ++ drop (length m) d, length m)
+    → calledBoth old (writeMinuteFrom (take minuteCount z) d) ≡ called 0 (m ++ drop (length m) d, length m)
 c-minute-round-trip m fields z h d old room =
     let r = c-read-minute m fields z .0 h in
-    let first = ap (take 16) (r .1 .2) ∙ take-at _ _ _ (numbers.minute-numbers-long (r .0)) in
+    let first = ap (take minuteCount) (r .1 .2) ∙ take-at _ _ _ (numbers.minute-numbers-long (r .0)) in
     c-write-minute _ d old .write-read m (r .0, (r .1 .0, first)) room
 
 -- every string and every minute that is read has an instant, from C by the numbers that the call left

@@ -15,7 +15,7 @@ use Rattle.time_string.specs.Kind.{kindOf, kindNumber, kindNamed, namedKind, re
 use Rattle.time_string.specs.declared.Kind.{Kind}
 use Rattle.time_string.specs.declared.Kind.the-variants.{Standard, Pzf, Gps, Elv}
 use Rattle.dcf77.specs.Minute.{minuteChecks, minuteFields, readMinute}
-use Rattle.c_numbers.specs.Numbers.{timeNumbers, minuteNumbers, putNumbers, putAnswer}
+use Rattle.c_numbers.specs.Numbers.{timeNumbers, minuteNumbers, putNumbers, putAnswer, minuteCount}
 use Rattle.c_fields.specs.Ranges.{timeRanges, fits, timeFrom, numbered}
 use Rattle.c_readings.specs.Strings.{kindNumberOf, readingNumbers, readNumbered, readInto, unixTimeOf}
 use Rattle.c_readings.specs.Minutes.{readMinuteInto}
@@ -88,8 +88,8 @@ pub read-minute-checks : (m : List ℕ) (fields : List ℤ) → readMinuteInto m
 unfolding readMinuteInto putAnswer readMinute minuteNumbers timeNumbers
 read-minute-checks m fields =
     let a = minuteFields m in
-    then-leaves a tt (roomCheck 16 fields ∷ []) fields (inFront (minuteNumbers a) fields)
-    (λ x. putNumbers (minuteNumbers x) fields) (put-checks minuteNumbers fields a 16 refl) (minuteChecks m)
+    then-leaves a tt (roomCheck minuteCount fields ∷ []) fields (inFront (minuteNumbers a) fields)
+    (λ x. putNumbers (minuteNumbers x) fields) (put-checks minuteNumbers fields a minuteCount refl) (minuteChecks m)
 
 -- ---- digits
 -- an answer with a place beside it

@@ -20,7 +20,7 @@ use Rattle.calendar.specs.Rules.{ValidReading}
 use Rattle.calendar.specs.UnixTime.{isReading, instantOf, unixTime}
 use Rattle.calendar.proofs.RulesLaws.{valid-exactly}
 use Rattle.gregorian.proofs.Theorems.{day-after-exactly}
-use Rattle.c_numbers.specs.Numbers.{timeNumbers}
+use Rattle.c_numbers.specs.Numbers.{timeNumbers, timeCount}
 use Rattle.c_fields.specs.Ranges.{Range, within, timeRanges, fits, timeFrom, numbered}
 use Rattle.c_fields.proofs.FitsLaws.{first-time-numbers}
 use Rattle.c_fields.proofs.Theorems as fields
@@ -65,33 +65,33 @@ fits-take (r ∷ rs) (x ∷ z) h =
     let i = fits-take rs z (w .1) in
     (rw (w .0) (i .0), rw (i .1) refl)
 
-from-take : (z : List ℤ) → timeFrom (take 14 z) ≡ timeFrom z
+from-take : (z : List ℤ) → timeFrom (take timeCount z) ≡ timeFrom z
 unfolding timeFrom
 from-take z =
     simp (
-      getD-take 14 z 0 (pos 0) (lit< tt),
-      getD-take 14 z 1 (pos 0) (lit< tt),
-      getD-take 14 z 2 (pos 0) (lit< tt),
-      getD-take 14 z 3 (pos 0) (lit< tt),
-      getD-take 14 z 4 (pos 0) (lit< tt),
-      getD-take 14 z 5 (pos 0) (lit< tt),
-      getD-take 14 z 6 (pos 0) (lit< tt),
-      getD-take 14 z 7 (pos 0) (lit< tt),
-      getD-take 14 z 8 (pos 0) (lit< tt),
-      getD-take 14 z 9 (pos 0) (lit< tt),
-      getD-take 14 z 10 (pos 0) (lit< tt),
-      getD-take 14 z 11 (pos 0) (lit< tt),
-      getD-take 14 z 12 (pos 0) (lit< tt),
-      getD-take 14 z 13 (pos 0) (lit< tt),
+      getD-take timeCount z 0 (pos 0) (lit< tt),
+      getD-take timeCount z 1 (pos 0) (lit< tt),
+      getD-take timeCount z 2 (pos 0) (lit< tt),
+      getD-take timeCount z 3 (pos 0) (lit< tt),
+      getD-take timeCount z 4 (pos 0) (lit< tt),
+      getD-take timeCount z 5 (pos 0) (lit< tt),
+      getD-take timeCount z 6 (pos 0) (lit< tt),
+      getD-take timeCount z 7 (pos 0) (lit< tt),
+      getD-take timeCount z 8 (pos 0) (lit< tt),
+      getD-take timeCount z 9 (pos 0) (lit< tt),
+      getD-take timeCount z 10 (pos 0) (lit< tt),
+      getD-take timeCount z 11 (pos 0) (lit< tt),
+      getD-take timeCount z 12 (pos 0) (lit< tt),
+      getD-take timeCount z 13 (pos 0) (lit< tt),
     )
 
 -- numbers that fit are those of the clock time that they stand for
-fit-numbers : (z : List ℤ) → fits timeRanges z ≡ true → take 14 z ≡ timeNumbers (timeFrom z)
+fit-numbers : (z : List ℤ) → fits timeRanges z ≡ true → take timeCount z ≡ timeNumbers (timeFrom z)
 unfolding timeRanges numbered
 fit-numbers z h =
     let w = fits-take timeRanges z h in
     rw (from-take z) at
-    (sym (fields.numbers-time (take 14 z) (timeFrom (take 14 z)) (simp (eq-eqb _ _ (w .1), w .0))))
+    (sym (fields.numbers-time (take timeCount z) (timeFrom (take timeCount z)) (simp (eq-eqb _ _ (w .1), w .0))))
 
 numbered-accepted : {A : Type 0} (fit : Bool) (a b : A) → numbered fit a ≡ accepted b → (fit ≡ true) × (a ≡ b)
 unfolding numbered
@@ -99,13 +99,13 @@ numbered-accepted true a b h = (refl, cc)
 numbered-accepted false a b h = apart (sym h)
 
 -- and the numbers of a valid reading fit
-numbers-fit : (z : List ℤ) (t : ClockTime) → ValidReading t → take 14 z ≡ timeNumbers t
+numbers-fit : (z : List ℤ) (t : ClockTime) → ValidReading t → take timeCount z ≡ timeNumbers t
     → (fits timeRanges z ≡ true) × (timeFrom z ≡ t)
 numbers-fit z t v e =
     numbered-accepted (fits timeRanges z) (timeFrom z) t
-    (rw (← (take-append-drop 14 z)) (rw e (first-time-numbers t (valid-fits t (valid-exactly t .1 v)) (drop 14 z))))
+    (rw (← (take-append-drop timeCount z)) (rw e (first-time-numbers t (valid-fits t (valid-exactly t .1 v)) (drop 14 z))))
 
-time-long : (t : ClockTime) → length (timeNumbers t) ≡ 14
+time-long : (t : ClockTime) → length (timeNumbers t) ≡ timeCount
 unfolding timeNumbers
 time-long t = refl
 
@@ -123,10 +123,10 @@ numbers-checks z = unix-time-checks z ∙ go (fits timeRanges z) (isReading (tim
     go false b = refl
 
 -- some valid reading has the first 14 numbers
-valid-of : (z : List ℤ) → ofValid z ≡ true → ValidReading (timeFrom z) × (take 14 z ≡ timeNumbers (timeFrom z))
+valid-of : (z : List ℤ) → ofValid z ≡ true → ValidReading (timeFrom z) × (take timeCount z ≡ timeNumbers (timeFrom z))
 valid-of z h = let w = both _ _ h in (valid-exactly _ .0 (w .1), fit-numbers z (w .0))
 
-of-valid : (z : List ℤ) (t : ClockTime) → ValidReading t → take 14 z ≡ timeNumbers t
+of-valid : (z : List ℤ) (t : ClockTime) → ValidReading t → take timeCount z ≡ timeNumbers t
     → (ofValid z ≡ true) × (timeFrom z ≡ t)
 of-valid z t v e =
     let w = numbers-fit z t v e in (simp (w .0, w .1, valid-exactly t .1 v), w .1)
@@ -135,7 +135,7 @@ pub numbers-agree : (z : List ℤ) → Agree (given 23 (not (ofValid z)) ∷ [])
 numbers-agree z = (refl, go (ofValid z) refl, λ p. tt)
   where
     None : Type 0
-    None = (t : ClockTime) → ValidReading t → take 14 z ≡ timeNumbers t → ⊥
+    None = (t : ClockTime) → ValidReading t → take timeCount z ≡ timeNumbers t → ⊥
 
     go : (b : Bool) → ofValid z ≡ b → (not b ≡ true) ↔ None
     go true q = (λ h. absurd (false≢true h), λ none. absurd (let w = valid-of z q in none _ (w .0) (w .1)))
@@ -166,5 +166,5 @@ instant-left n s r h z rest e old =
     let v = valid-numbers n s r h in
     let t = readingTime r in
     let whole : z ≡ timeNumbers t ++ (v .1 ++ rest) = e ∙ rw (v .2) (append-assoc (timeNumbers t) (v .1) rest) in
-    let first : take 14 z ≡ timeNumbers t = rw whole (take-at _ _ 14 (time-long t)) in
+    let first : take timeCount z ≡ timeNumbers t = rw whole (take-at _ _ timeCount (time-long t)) in
     rw (numbers-exactly z (instantOf t) .1 (t, (first, (v .0, instant-exactly t (v .0) _ .0 refl)))) refl

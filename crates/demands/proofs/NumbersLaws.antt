@@ -18,7 +18,7 @@ use Rattle.dcf77.specs.declared.MinuteTime.{MinuteTime}
 use Rattle.dcf77.proofs.Theorems as minutes
 use Rattle.time_string.specs.Kind.{kindNumber, namedKind, Reading, time, timeAndPosition, readingTime}
 use Rattle.time_string.specs.declared.Kind.{Kind}
-use Rattle.c_numbers.specs.Numbers.{timeNumbers, gpsNumbers, minuteNumbers}
+use Rattle.c_numbers.specs.Numbers.{timeNumbers, gpsNumbers, minuteNumbers, minuteCount}
 use Rattle.c_fields.specs.Ranges.{minuteOf}
 use Rattle.c_fields.proofs.Theorems as fields
 use Rattle.c_writer.specs.Writers.{writeAs, writeFrom, writeMinuteFrom}
@@ -108,7 +108,7 @@ minute-settled z d =
     (λ x k e. numbered-23 _ _ k e) z d
 
 -- ---- the numbers that a call left
-pub minute-numbers-long : (a : MinuteTime) → length (minuteNumbers a) ≡ 16
+pub minute-numbers-long : (a : MinuteTime) → length (minuteNumbers a) ≡ minuteCount
 unfolding minuteNumbers timeNumbers
 minute-numbers-long a = refl
 

@@ -7,7 +7,7 @@ use lib.IntN.{ℤ, pos, _-ℤ_, _*ℤ_}
 use Rattle.clock_time.specs.declared.ClockTime.{ClockTime}
 use Rattle.calendar.specs.Rules.{ValidReading}
 use Rattle.gregorian.specs.Days.{DayAfter}
-use Rattle.c_numbers.specs.Numbers.{timeNumbers}
+use Rattle.c_numbers.specs.Numbers.{timeNumbers, timeCount}
 
 -- "The instant is 86,400 × days since 1 January 1970 + 3,600 × hour + 60 × minute + second − 60 × offset. It may be
 -- below zero: [..]. Second 60 has the instant of the second after it." (01, The reading)
@@ -24,4 +24,4 @@ InstantOf t z = ValidReading t × Instant t z
 
 -- the same of the first 14 of some numbers; numbers that are no reading's, such as a flag of 2, have no instant
 abbrev pub InstantOfNumbers : List ℤ → ℤ → Type 0
-InstantOfNumbers numbers z = (t : ClockTime) × ((take 14 numbers ≡ timeNumbers t) × InstantOf t z)
+InstantOfNumbers numbers z = (t : ClockTime) × ((take timeCount numbers ≡ timeNumbers t) × InstantOf t z)

@@ -13,6 +13,7 @@ use Rattle.meinberg_gps.specs.Accepts.{AcceptsGps}
 use Rattle.meinberg_gps.specs.Lines.{gpsLines}
 use Rattle.elv_dcf7000.specs.Accepts.{AcceptsElv}
 use Rattle.elv_dcf7000.specs.Lines.{elvLines}
+use Rattle.c_numbers.specs.Numbers.{timeCount, gpsCount}
 use Rattle.time_string.specs.Kind.{Reading, time, timeAndPosition}
 use Rattle.time_string.specs.declared.Kind.{Kind}
 use Rattle.time_string.specs.declared.Kind.the-variants.{Standard, Pzf, Gps, Elv}
@@ -41,7 +42,7 @@ kindRules Standard =
       Accepts = λ s. Hands time (AcceptsStandard s);
       lines = standardLines;
       own = [];
-      count = 14;
+      count = timeCount;
     }
 kindRules Pzf =
     record {
@@ -49,7 +50,7 @@ kindRules Pzf =
       Accepts = λ s. Hands time (AcceptsPzf s);
       lines = pzfLines;
       own = [];
-      count = 14;
+      count = timeCount;
     }
 kindRules Gps =
     record {
@@ -57,7 +58,7 @@ kindRules Gps =
       Accepts = λ s. Hands timeAndPosition (AcceptsGps s);
       lines = gpsLines;
       own = 8 ∷ 9 ∷ [];
-      count = 17;
+      count = gpsCount;
     }
 kindRules Elv =
     record {
@@ -65,5 +66,5 @@ kindRules Elv =
       Accepts = λ s. Hands time (AcceptsElv s);
       lines = elvLines;
       own = [];
-      count = 14;
+      count = timeCount;
     }

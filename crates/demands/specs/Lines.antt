@@ -12,7 +12,7 @@ use Rattle.calendar.specs.Rules.{ValidReading}
 use Rattle.dcf77.specs.Lines.{minuteLines}
 use Rattle.time_string.specs.Kind.{namedKind}
 use Rattle.time_string.specs.declared.Kind.{Kind}
-use Rattle.c_numbers.specs.Numbers.{timeNumbers}
+use Rattle.c_numbers.specs.Numbers.{timeNumbers, minuteCount, timeCount}
 use Rattle.demands.specs.Kinds.{kindRules}
 use Rattle.demands.specs.Accepted.{AcceptsNumbers}
 
@@ -103,11 +103,11 @@ writeLines n z buffer = unknownKind n ∷ writerLines (λ s. AcceptsNumbers n s 
 
 -- the minute's reader, the room
 abbrev pub readMinuteLines : List ℕ → List ℤ → List Line
-readMinuteLines m fields = minuteLines m ++ (roomFor 16 fields ∷ [])
+readMinuteLines m fields = minuteLines m ++ (roomFor minuteCount fields ∷ [])
 
 -- "Refused with 23 where the fields are no valid reading" (01, The reading): the first 14 numbers are those of none
 abbrev pub instantLinesOf : List ℤ → List Line
-instantLinesOf z = line 23 ((t : ClockTime) → ValidReading t → take 14 z ≡ timeNumbers t → ⊥) ∷ []
+instantLinesOf z = line 23 ((t : ClockTime) → ValidReading t → take timeCount z ≡ timeNumbers t → ⊥) ∷ []
 
 -- 20: "a buffer too short to write to" (01, Refusal numbers): the feed's state has 68 bytes
 abbrev pub feedLines : List ℕ → List Line

@@ -1,4 +1,4 @@
--- A feed over all of s, read, counted and with its line, is what the listing lists-next of s.
+-- A feed over all of s, read, counted and with its line, is what the listing tells of s.
 use Prim.Native.Nat.{ℕ, _≤_}
 use native.Mathlib.Omega.{arith}
 use mathlib.Core.Path.{_≡_, refl, sym, ap, _∙_}

@@ -28,7 +28,7 @@ abbrev pub readAsKind : List ℕ → Answer Kind → Answer ClockTime
 readAsKind s (accepted kind) = clockAnswer (readAs kind s)
 readAsKind s (refused k) = refused k
 
--- "A separate question lists-next the kind from the bytes" (01, Meinberg and ELV strings): a string is read as the kind that
+-- "A separate question tells the kind from the bytes" (01, Meinberg and ELV strings): a string is read as the kind that
 -- is told, so one of 21 bytes as ELV
 unfoldable pub readString : List ℕ → Answer ClockTime
 readString s = readAsKind s (kindOf s)

@@ -38,7 +38,7 @@ fn entry_of(answer: TimeAnswer) -> Entry
     }
 }
 
-// Reads a string as the kind that its bytes next_line.
+// Reads a string as the kind that its bytes tell.
 fn read_string(s: &[u8]) -> Entry
     ensures { λ r. ⌜ entryItem r ≡ string (readString (now (s .entry))) ⌝ }
 {

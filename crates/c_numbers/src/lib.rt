@@ -14,7 +14,8 @@ ghost use Rattle.meinberg_gps.specs.Gps.{gpsAnswer};
 ghost use Rattle.dcf77.specs.Minute.{minuteAnswer};
 ghost use Rattle.clock_time.specs.Called.{called, calledMemory};
 ghost use Rattle.clock_time.specs.Reading.{readAnswer};
-ghost use Rattle.c_numbers.specs.Numbers.{flagNumber, timeNumbers, gpsNumbers, minuteNumbers, putNumbers, gpsCount};
+ghost use Rattle.c_numbers.specs.Numbers.{flagNumber, timeNumbers, gpsNumbers, minuteNumbers, putNumbers};
+ghost use Rattle.c_numbers.specs.Numbers.{gpsCount};
 ghost use Rattle.c_numbers.specs.Numbers.{putAnswer};
 
 // How many numbers a clock time is, one with a position, and a minute.

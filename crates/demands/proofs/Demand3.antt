@@ -1,10 +1,11 @@
 -- Demand 3: "A day's marks lie on a tape, with a sheet of one number for each second. Whatever tape and sheet are lent,
 -- and whichever place and new mark are named, this holds after a correction that isn't refused. The tape has the new
--- mark at that place and its old mark at every other. The sheet's number at that place, and at the first gap after it if
--- there is one, is the one that document 01's rule gives for the corrected tape, whatever the sheet held before. Every
--- other number on the sheet is unchanged. So if the sheet was right for the old tape, it is right at every place for the
--- new one. The count returned is exactly how many places of the sheet hold another number than before." `Corrected` has
--- a named part for each of these sentences. The functions in src/ have these statements as their contracts.
+-- mark at that place and its old mark at every other. The sheet's number at that place, and at the first gap after it
+-- if there is one, is the one that document 01's rule gives for the corrected tape, whatever the sheet held before.
+-- Every other number on the sheet is unchanged. So if the sheet was right for the old tape, it is right at every place
+-- for the new one. The count returned is exactly how many places of the sheet hold another number than before."
+-- `Corrected` has a named part for each of these sentences. The functions in src/ have these statements as their
+-- contracts.
 use Prim.Native.Nat.{ℕ, _<_, _≤_}
 use mathlib.Core.Path.{_≡_}
 use mathlib.Core.Logic.{_↔_}

@@ -103,7 +103,8 @@ numbers-fit : (z : List ℤ) (t : ClockTime) → ValidReading t → take timeCou
     → (fits timeRanges z ≡ true) × (timeFrom z ≡ t)
 numbers-fit z t v e =
     numbered-accepted (fits timeRanges z) (timeFrom z) t
-    (rw (← (take-append-drop timeCount z)) (rw e (first-time-numbers t (valid-fits t (valid-exactly t .1 v)) (drop 14 z))))
+    (rw (← (take-append-drop timeCount z))
+    (rw e (first-time-numbers t (valid-fits t (valid-exactly t .1 v)) (drop timeCount z))))
 
 time-long : (t : ClockTime) → length (timeNumbers t) ≡ timeCount
 unfolding timeNumbers

@@ -58,7 +58,8 @@ both-exit {A = A} {M = M} e old m a some h = go (e .answer) refl
     go (refused k) q =
         absurd (some (q ∙ ap refused (sym (ap (λ (c : Called (M × A)). c .status) h ∙ ap statusOf q))))
 
-pub correct-0 : (marks outcomes : List ℕ) (place mark : ℕ) → correctMark marks outcomes place mark .answer ≡ refused 0 → ⊥
+pub correct-0 : (marks outcomes : List ℕ) (place mark : ℕ) → correctMark marks outcomes place mark .answer ≡ refused 0
+    → ⊥
 correct-0 marks outcomes place mark =
     never-0 _ (20 ∷ 21 ∷ 22 ∷ []) refl _ (demand-1.correct-mark marks outcomes place mark .ordered)
 

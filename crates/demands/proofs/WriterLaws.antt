@@ -69,7 +69,8 @@ module _ {Reads : List ℕ → Type 0} {d : List ℕ} {e : Written} (w : Settled
             refl,
             (
               λ f. absurd (false≢true f),
-              λ r. apart (sym (answered-by (w .written s h room)) ∙ answered-by (w .no-room (r .0) (r .1 .0) (r .1 .1))),
+              λ r.
+                  apart (sym (answered-by (w .written s h room)) ∙ answered-by (w .no-room (r .0) (r .1 .0) (r .1 .1))),
             ),
             λ q. tt,
           ),

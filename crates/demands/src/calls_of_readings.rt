@@ -46,7 +46,8 @@ fn radio_clock_read(kind: u8, s: &[u8], fields: &mut [i32]) -> u8
 
 fn radio_clock_write(kind: u8, fields: &[i32], out: &mut [u8], written: &mut usize) -> u8
     ensures demand_1 { λ r. ⌜
-        CallRefusesAndKeeps {M = List ℕ × ℕ} (writeLines kind (now (fields .entry)) (now (out .entry))) (1 ∷ 23 ∷ 20 ∷ [])
+        CallRefusesAndKeeps {M = List ℕ × ℕ} (writeLines kind (now (fields .entry)) (now (out .entry)))
+        (1 ∷ 23 ∷ 20 ∷ [])
         (now (out .entry), now (written .entry)) (called r (now (out .exit), now (written .exit)))
         ⌝ }
     ensures demand_2 { λ r. ⌜

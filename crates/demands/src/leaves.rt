@@ -73,7 +73,9 @@ fn check_without_weekday(t: ClockTime) -> ReadAnswer
     ensures demand_1 { λ r. ⌜
         RefusesInOrder (tests (clockChecks (supportedDay t) (withWeekday t) false)) (5 ∷ 6 ∷ 7 ∷ []) (readAnswer r)
         ⌝ }
-    ensures answer { λ r. ⌜ readAnswer r ≡ checked (clockChecks (supportedDay t) (withWeekday t) false) (withWeekday t) ⌝ }
+    ensures answer { λ r. ⌜
+        readAnswer r ≡ checked (clockChecks (supportedDay t) (withWeekday t) false) (withWeekday t)
+        ⌝ }
 {
     layout::check_without_weekday(t)
 }
@@ -166,7 +168,8 @@ fn write_line(t: ClockTime, out: &mut [u8]) -> WriteAnswer
 fn write_totals(t: Totals, out: &mut [u8]) -> WriteAnswer
     ensures demand_1 { λ r. ⌜
         RefusesAndKeeps
-        (tests (given 20 (ltb (length (now (out .entry))) (length (totalsLine t))) ∷ [])) (20 ∷ []) (now (out .entry)) (written r (now (out .exit)))
+        (tests (given 20 (ltb (length (now (out .entry))) (length (totalsLine t))) ∷ [])) (20 ∷ []) (now (out .entry))
+        (written r (now (out .exit)))
         ⌝ }
     ensures answer { λ r. ⌜ written r (now (out .exit)) ≡ writeTotals t (now (out .entry)) ⌝ }
 {

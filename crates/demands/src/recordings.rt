@@ -43,7 +43,8 @@ fn correct_mark(marks: &mut [u8], outcomes: &mut [u32], place: usize, mark: u8) 
         ⌝ }
     ensures demand_3 { λ r. ⌜
         ((count : ℕ) → correctAnswer r ≡ accepted count
-        → Corrected (now (marks .entry)) (now (outcomes .entry)) place mark (now (marks .exit)) (now (outcomes .exit)) count)
+        → Corrected (now (marks .entry)) (now (outcomes .entry)) place mark (now (marks .exit)) (now (outcomes .exit))
+        count)
         ⌝ }
 {
     recording::correct_mark(marks, outcomes, place, mark)

@@ -33,7 +33,9 @@ fn kind_of(s: &[u8]) -> KindAnswer
 }
 
 fn read(kind: Kind, s: &[u8]) -> TimeAnswer
-    ensures demand_1 { λ r. ⌜ RefusesInOrder (linesAs kind (now (s .entry))) (textOrder (ownNumbers kind)) (timeAnswer r) ⌝ }
+    ensures demand_1 { λ r. ⌜
+        RefusesInOrder (linesAs kind (now (s .entry))) (textOrder (ownNumbers kind)) (timeAnswer r)
+        ⌝ }
     ensures demand_2 { λ r. ⌜ ReadsExactly (AcceptsAs kind (now (s .entry))) (timeAnswer r) ⌝ }
 {
     time_string::read(kind, s)

@@ -135,8 +135,8 @@ module _
     valid-answer s a e =
         representable-reading (f .clock a) (both (isRepresentable (f .clock a)) (representable a) (passes s a e) .0)
 
-    -- read exactly what is written: a string is read as a value exactly if the value is a valid reading that is representable,
-    -- and the string is its text
+    -- read exactly what is written: a string is read as a value exactly if the value is a valid reading that is
+    -- representable, and the string is its text
     pub read-written : ((s : List ℕ) → PassesText f s → w .text (f .fields s) ≡ s) → (s : List ℕ) (a : A)
         → (readText f s ≡ accepted a) ↔ (((isRepresentable (f .clock a) && representable a) ≡ true) × (w .text a ≡ s))
     read-written text-fields s a = (

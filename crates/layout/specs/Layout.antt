@@ -9,10 +9,10 @@ use lib.ListN.{length, getD}
 use Rattle.clock_time.specs.Lists.{slice}
 use Rattle.decimal.specs.Decimal.{isDigit, value}
 
--- "Places count from 0." (01, Meinberg and ELV strings): a layout has a number for each of them in turn. Below 256 it is
--- that byte and no other; `digit`, a decimal digit; `free`, any byte, since other rules speak of it; `flag a`, the letter
--- a or a blank; `either a b`, the letter a, the letter b or a blank. No layout has another number; from 258 on one would
--- be taken as a flag.
+-- "Places count from 0." (01, Meinberg and ELV strings): a layout has a number for each of them in turn. Below 256 it
+-- is that byte and no other; `digit`, a decimal digit; `free`, any byte, since other rules speak of it; `flag a`, the
+-- letter a or a blank; `either a b`, the letter a, the letter b or a blank. No layout has another number; from 258 on
+-- one would be taken as a flag.
 abbrev pub digit : ℕ
 digit = 256
 

@@ -22,7 +22,8 @@ abbrev halves : (n at : ℕ) (s : List ℕ) → List ℕ
 halves zero at s = []
 halves (suc n) at s = getD s at 0 % 16 ∷ halves n (suc at) s
 
-word-halves : (n at : ℕ) (s : List ℕ) → Bytes s → bitAnd (word (slice at n s)) (word (places n 15)) ≡ word (halves n at s)
+word-halves : (n at : ℕ) (s : List ℕ) → Bytes s
+    → bitAnd (word (slice at n s)) (word (places n 15)) ≡ word (halves n at s)
 unfolding word
 word-halves zero at s h = and-zero-l 0
 word-halves (suc n) at s h =

@@ -38,7 +38,8 @@ module _ (l : Listing) (s : List ℕ) (r : FeedResult) (e : r ≡ feedOf (l .fra
 
   pub lists-next : (i : Item) → i ≡ itemOf (r .framer .bytes) (r .event)
       → (totals : Totals) → totals ≡ counted (l .totals) i → (line : Line) → Shows line i
-      → ListsNext l s (record { listing = record { framer = r .framer; totals = totals }; line = line; taken = r .taken })
+      → ListsNext l s
+      (record { listing = record { framer = r .framer; totals = totals }; line = line; taken = r .taken })
   lists-next i q totals t line shows =
       record {
         within = rw taken (feed-taken (l .framer) s (length s) .0);

@@ -81,7 +81,8 @@ clockOf s =
 -- what is left to check once the offset and the position hold
 abbrev pub readClock : List ℕ → Position → Answer GpsTime
 readClock s p =
-    checked (clockChecks (supportedDay (clockOf s)) (clockOf s) (leapMismatch s)) (record { time = clockOf s; position = p })
+    checked (clockChecks (supportedDay (clockOf s)) (clockOf s) (leapMismatch s))
+    (record { time = clockOf s; position = p })
 
 -- what a string says: "A GPS string adds position and height" (01, The reading) to a clock time
 unfoldable pub gpsFields : List ℕ → GpsTime

@@ -14,8 +14,10 @@ use Rattle.clock_time.specs.Lists.{slice}
 use Rattle.layout.specs.Layout.{number}
 use Rattle.meinberg_gps_position.specs.Aligned.{areDigits, rightAligned, digitsOrBlanks}
 use Rattle.meinberg_gps_position.specs.Position.{Angle, latitude, longitude, wholePart, decimals, angleDigits}
-use Rattle.meinberg_gps_position.specs.Position.{positionDigits, hemisphere, angleMagnitude, inRange, positionFault}
-use Rattle.meinberg_gps_position.specs.Position.{angleOf, positionOf, readPosition, positionFrom, positionRepresentable}
+use Rattle.meinberg_gps_position.specs.Position.{positionDigits, hemisphere, angleMagnitude, inRange}
+use Rattle.meinberg_gps_position.specs.Position.{positionFault}
+use Rattle.meinberg_gps_position.specs.Position.{angleOf, positionOf, readPosition, positionFrom}
+use Rattle.meinberg_gps_position.specs.Position.{positionRepresentable}
 use Rattle.signed.proofs.SignedLaws.{sign-limit, signed-magnitude}
 use Rattle.meinberg_gps_position.proofs.AlignedLaws.{digits-numeric, aligned-numeric, aligned-end, value-small}
 

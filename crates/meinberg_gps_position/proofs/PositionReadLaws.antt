@@ -11,7 +11,8 @@ use Rattle.decimal.specs.Decimal.{value}
 use Rattle.decimal.proofs.DecimalLaws.{valueFrom-append}
 use Rattle.signed.proofs.SignedLaws.{signed-magnitude, sign-byte-signed}
 use Rattle.meinberg_gps_position.specs.Position.{Angle, latitude, longitude, wholePart, decimals, hemisphere}
-use Rattle.meinberg_gps_position.specs.Position.{angleMagnitude, inRange, positionFault, angleOf, positionOf, angleBytes}
+use Rattle.meinberg_gps_position.specs.Position.{angleMagnitude, inRange, positionFault, angleOf, positionOf}
+use Rattle.meinberg_gps_position.specs.Position.{angleBytes}
 use Rattle.meinberg_gps_position.specs.Position.{angleText, positionText}
 use Rattle.meinberg_gps_position.proofs.AlignedReadLaws.{aligned-value, four-after}
 use Rattle.meinberg_gps_position.proofs.PositionLaws.{DigitsOf, faultless}

@@ -19,10 +19,12 @@ use Rattle.signed.specs.Signed.{signByte}
 use Rattle.signed.proofs.SignedLaws.{sign-read, sign-written}
 use Rattle.meinberg_gps_position.specs.Aligned.{padded, aligned}
 use Rattle.meinberg_gps_position.specs.Position.{Angle, latitude, longitude, wholePart, decimals, hemisphere}
-use Rattle.meinberg_gps_position.specs.Position.{angleMagnitude, angleDigits, positionDigits, inRange, positionFault}
+use Rattle.meinberg_gps_position.specs.Position.{angleMagnitude, angleDigits, positionDigits, inRange}
+use Rattle.meinberg_gps_position.specs.Position.{positionFault}
 use Rattle.meinberg_gps_position.specs.Position.{angleOf, positionOf, angleBytes, angleText, positionText}
 use Rattle.meinberg_gps_position.specs.Position.{positionRepresentable}
-use Rattle.meinberg_gps_position.proofs.AlignedWrittenLaws.{value-aligned, aligned-right, four-digits, value-after}
+use Rattle.meinberg_gps_position.proofs.AlignedWrittenLaws.{value-aligned, aligned-right, four-digits}
+use Rattle.meinberg_gps_position.proofs.AlignedWrittenLaws.{value-after}
 
 -- ---- an angle
 -- the bytes of an angle at its places

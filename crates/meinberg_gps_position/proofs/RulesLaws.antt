@@ -18,7 +18,8 @@ use Rattle.signed.proofs.SignedLaws.{SignRules, sign-exactly}
 use Rattle.meinberg_gps_position.specs.Aligned.{areDigits, rightAligned}
 use Rattle.meinberg_gps_position.specs.Position.{latitude, longitude, angleMagnitude}
 use Rattle.meinberg_gps_position.specs.Position.{angleDigits, positionDigits, inRange, positionFault}
-use Rattle.meinberg_gps_position.specs.Rules.{DigitsAt, WholePart, fourDigitsAt, latitudeMagnitude, longitudeMagnitude}
+use Rattle.meinberg_gps_position.specs.Rules.{DigitsAt, WholePart, fourDigitsAt, latitudeMagnitude}
+use Rattle.meinberg_gps_position.specs.Rules.{longitudeMagnitude}
 use Rattle.meinberg_gps_position.specs.Rules.{PositionRules}
 use Rattle.meinberg_gps_position.proofs.AlignedLaws.{aligned-ways, aligned-blank}
 use Rattle.meinberg_gps_position.proofs.AlignedWrittenLaws.{high-first}

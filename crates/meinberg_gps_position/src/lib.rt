@@ -9,7 +9,8 @@ ghost use lib.ListN.{length};
 ghost use Rattle.layout.specs.Layout.{number};
 ghost use Rattle.decimal.specs.Decimal.{value};
 ghost use Rattle.meinberg_gps_position.specs.Aligned.{areDigits, rightAligned, digitsOrBlanks};
-ghost use Rattle.meinberg_gps_position.specs.Position.{positionDigits, positionFrom, readPosition, positionAnswer};
+ghost use Rattle.meinberg_gps_position.specs.Position.{positionDigits, positionFrom, readPosition};
+ghost use Rattle.meinberg_gps_position.specs.Position.{positionAnswer};
 ghost use Rattle.meinberg_gps_position.specs.Position.{positionText, positionRepresentable};
 
 mod digits;

@@ -75,7 +75,8 @@ text-fits t =
     tested-fits standardLayout (standardText t) refl (simp (digit-written, letter-fits, zone-fits, announced-fits))
 
 -- what is read is representable
-zone-representable : (x : ℕ) → eqℤ (standardZone (zoneLetter (standardZone x) (eqb x (code "S")))) (standardZone x) ≡ true
+zone-representable : (x : ℕ)
+    → eqℤ (standardZone (zoneLetter (standardZone x) (eqb x (code "S")))) (standardZone x) ≡ true
 unfolding standardZone zoneLetter eqℤ
 zone-representable x = go (eqb x (code "U")) (eqb x (code "S")) refl refl
   where
@@ -126,7 +127,8 @@ leap-read true false h = refl
 leap-read false true h = refl
 leap-read false false h = refl
 
-text-says : (t : ClockTime) → isRepresentable t ≡ true → standardRepresentable t ≡ true → standardFields (standardText t) ≡ t
+text-says : (t : ClockTime) → isRepresentable t ≡ true → standardRepresentable t ≡ true
+    → standardFields (standardText t) ≡ t
 unfolding standardRepresentable standardFields standardText ascii digits sameTime sameFields
 text-says t h k =
     let zone = eqℤ (standardZone (zoneLetter (t .«utc_offset») (t .«summer_time»))) (t .«utc_offset») in

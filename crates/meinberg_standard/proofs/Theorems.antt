@@ -17,7 +17,8 @@ use Rattle.layout.specs.Text.{writtenClock}
 use Rattle.layout.specs.Picture.{AsDrawn}
 use Rattle.layout.proofs.DecideLaws.{clock-valid, clock-written}
 use Rattle.layout.proofs.Theorems as text
-use Rattle.meinberg_standard.specs.Standard.{standardText, standardRepresentable, standard, readStandard, writeStandard}
+use Rattle.meinberg_standard.specs.Standard.{standardText, standardRepresentable, standard, readStandard}
+use Rattle.meinberg_standard.specs.Standard.{writeStandard}
 use Rattle.meinberg_standard.specs.Accepts.{AcceptsStandard}
 use Rattle.meinberg_standard.specs.Says.{standardPicture, SaysStandard}
 use Rattle.meinberg_standard.specs.Lines.{standardLines}

@@ -76,7 +76,8 @@ module _ (marks outcomes outcomes′ : List ℕ) where
   pub filled-outcome-at : filling FillAnswer.Filled outcomes′ ≡ fillOutcomes marks outcomes
       → (i : ℕ) → i < length marks → outcomeAt marks i ≡ accepted (getD outcomes′ i 0)
   filled-outcome-at h i l =
-      rw (fill-right marks outcomes outcomes′ h .each i l) (outcome-fits marks i (fill-fits marks outcomes outcomes′ h) l)
+      rw (fill-right marks outcomes outcomes′ h .each i l)
+      (outcome-fits marks i (fill-fits marks outcomes outcomes′ h) l)
 
   pub refused-filling-changes-nothing : (e : Error)
       → filling (FillAnswer.Refused e) outcomes′ ≡ fillOutcomes marks outcomes → outcomes′ ≡ outcomes

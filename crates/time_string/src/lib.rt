@@ -30,8 +30,8 @@ pub enum TimeAnswer {
     Refused(Error),
 }
 
-// The kind of a string: by its length, and of the two that are 32 long by the byte at place 1. Refuses with Length (1) if
-// no kind has that length.
+// The kind of a string: by its length, and of the two that are 32 long by the byte at place 1. Refuses with Length (1)
+// if no kind has that length.
 pub fn kind_of(s: &[u8]) -> KindAnswer
     ensures { λ r. ⌜ kindAnswer r ≡ kindOf (now (s .entry)) ⌝ }
 {

@@ -19,4 +19,6 @@ returns c =
     (simp (toZ-ofZ (offset-fits (zone .before)), day .weekday-or-zero .ensures, zone .offset-of .ensures))
 
 pub is-representable-spec : {M : Type 1} → statement M
-is-representable-spec = tie.close (tie.spec (λ c κs. search needs) (λ c κs. search needs) (λ c κs. search needs) returns)
+is-representable-spec =
+    tie.close
+    (tie.spec (λ c κs. search needs) (λ c κs. search needs) (λ c κs. search needs) returns)

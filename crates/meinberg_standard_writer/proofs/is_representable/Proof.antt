@@ -20,4 +20,6 @@ returns c =
     (simp (toZ-ofZ (offset-fits (letter .before .before)), zone .zone-offset .ensures, letter .zone-letter .ensures))
 
 pub is-representable-spec : {M : Type 1} → statement M
-is-representable-spec = tie.close (tie.spec (λ c κs. search needs) (λ c κs. search needs) (λ c κs. search needs) returns)
+is-representable-spec =
+    tie.close
+    (tie.spec (λ c κs. search needs) (λ c κs. search needs) (λ c κs. search needs) returns)

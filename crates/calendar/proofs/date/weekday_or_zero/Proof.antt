@@ -9,7 +9,7 @@ use Rattle.calendar.proofs.date.weekday_or_zero.Statement.{statement}
 use Rattle.calendar.proofs.date.weekday_or_zero.Tie as tie
 
 dated : (c : tie.Then1)
-    → supportedDate (c .before .before .args .year) (c .before .before .args .month) (c .before .before .args .day) ≡ true
+    → let x = c .before .before .args in supportedDate (x .year) (x .month) (x .day) ≡ true
 dated c = sym (c .before .is-supported-date .ensures) ∙ c .if1 .taken
 
 sub-days : tie.Need-sub-days

@@ -10,4 +10,6 @@ returns c =
     (rw e (demand-1.c-correct-mark _ _ _ _ _), λ z. demand-3.c-correct-mark _ _ _ _ _ _ _ _ (rw z at e))
 
 pub radio-clock-correct-mark-spec : {M : Type 1} → statement M
-radio-clock-correct-mark-spec = tie.close (tie.spec (λ c κs. search needs) (λ c. search needs) (λ c. search needs) returns)
+radio-clock-correct-mark-spec =
+    tie.close
+    (tie.spec (λ c κs. search needs) (λ c. search needs) (λ c. search needs) returns)

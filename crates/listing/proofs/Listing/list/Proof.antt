@@ -23,7 +23,8 @@ turn-of : (c : tie.After-next-line Inv-loop μ-loop) →
     Turn (x .self) (x .s .now) (x .out .now) (l .i) (l .at) (l .out) (c .next-line .result)
 turn-of c =
     let t = c .before .before in
-    turn _ _ _ _ _ _ _ (t .before .before .loop .inv) _ (t .before .loop-test .taken) (t .if1 .left) (c .next-line .ensures)
+    turn _ _ _ _ _ _ _ (t .before .before .loop .inv) _ (t .before .loop-test .taken) (t .if1 .left)
+    (c .next-line .ensures)
 
 put-line-requires : tie.Need-put-line-requires Inv-loop μ-loop
 put-line-requires c κs = let d = c .before .before .before in (turn-of d .fits, d .next-line .ensures .fits)

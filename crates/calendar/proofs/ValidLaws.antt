@@ -9,7 +9,7 @@ use borrow.Author.Tests.{leb-true, ltb-true, eqb-true}
 use Rattle.clock_time.specs.Zone.{cetOffset}
 use Rattle.clock_time.specs.declared.ClockTime.{ClockTime}
 use Rattle.clock_time.proofs.Tests.{both}
-use Rattle.gregorian.specs.Date.{dateExists, fullYear, supportedDate}
+use Rattle.gregorian.specs.Date.{dateExists, fullYear, supportedDate, firstYear, lastYear}
 use Rattle.calendar.specs.TimeOfDay.{timeExists, utcMinute}
 use Rattle.calendar.specs.UnixTime.{offsetInRange, isReading}
 use Rattle.gregorian.proofs.DateLaws.{Known, known}
@@ -21,12 +21,12 @@ sixty-most second b h = go (ltb second 60) refl h
     go true e h = let k = ltb-true second 60 e in omega arith
     go false e h = let k = eqb-true second 60 (both (eqb second 60) b h .0) in omega (arith, k)
 
-date-exists : (y m d : ℕ) → supportedDate y m d ≡ true → dateExists y m d ≡ true
+date-exists : (y m d : ℕ) → supportedDate firstYear lastYear y m d ≡ true → dateExists y m d ≡ true
 unfolding supportedDate
 date-exists y m d h = both (leb 1970 y && leb y 2069) (dateExists y m d) h .1
 
 pub record Valid (t : ClockTime) : Type 0 where
-  pub supported-date : supportedDate (t .year) (t .month) (t .day) ≡ true
+  pub supported-date : supportedDate firstYear lastYear (t .year) (t .month) (t .day) ≡ true
   pub exists : dateExists (t .year) (t .month) (t .day) ≡ true
   pub date : Known (t .year) (t .month) (t .day)
   pub time : timeExists (t .hour) (t .minute) (t .second) (t .«utc_offset») ≡ true
@@ -40,7 +40,7 @@ pub record Valid (t : ClockTime) : Type 0 where
 pub valid : (t : ClockTime) → isReading t ≡ true → Valid t
 unfolding isReading timeExists
 valid t h =
-    let date = supportedDate (t .year) (t .month) (t .day) in
+    let date = supportedDate firstYear lastYear (t .year) (t .month) (t .day) in
     let time = timeExists (t .hour) (t .minute) (t .second) (t .«utc_offset») in
     let leap = eqb (utcMinute (t .hour) (t .minute) (t .«utc_offset»)) 1439 in
     let last = ltb (t .second) 60 || eqb (t .second) 60 && leap in
@@ -64,7 +64,7 @@ valid t h =
     }
 
 -- the year from 1970 to 2069 that ends in the last two digits of one of these years is that year
-pub full-year-last-two : (y : ℕ) → 1970 ≤ y → y ≤ 2069 → fullYear (y % 100) ≡ y
+pub full-year-last-two : (y : ℕ) → 1970 ≤ y → y ≤ 2069 → fullYear firstYear (y % 100) ≡ y
 unfolding fullYear
 full-year-last-two y first last = omega arith
 

@@ -5,7 +5,7 @@ use mathlib.Core.List.{[], _∷_}
 use lib.Dec.{leb}
 use lib.IntN.{ℤ, pos, natAbs, _-ℤ_, _*ℤ_}
 use Rattle.clock_time.specs.Errors.{Answer, accepted, refused, errorNumber, given, checked}
-use Rattle.gregorian.specs.Date.{supportedDate, daysSinceEpoch}
+use Rattle.gregorian.specs.Date.{supportedDate, daysSinceEpoch, firstYear, lastYear}
 use Rattle.calendar.specs.TimeOfDay.{timeExists}
 use Rattle.clock_time.specs.declared.ClockTime.{ClockTime}
 use Rattle.calendar.specs.declared.unix_time.UnixTime.{UnixTime}
@@ -18,7 +18,7 @@ offsetInRange offset = leb (natAbs offset) 840
 -- "year 1970 to 2069, a date, a time of day, weekday 1..7, offset at most 840 minutes either way" (01, The reading)
 unfoldable pub isReading : ClockTime → Bool
 isReading t =
-    supportedDate (t .year) (t .month) (t .day)
+    supportedDate firstYear lastYear (t .year) (t .month) (t .day)
     && timeExists (t .hour) (t .minute) (t .second) (t .«utc_offset»)
     && leb 1 (t .weekday)
     && leb (t .weekday) 7

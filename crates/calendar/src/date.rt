@@ -5,6 +5,7 @@ ghost use mathlib.Core.Path.{_≡_};
 ghost use mathlib.Core.Bool.{true};
 ghost use Prim.Native.Nat.{_+_, _-_, _*_, _/_, _<_};
 ghost use Rattle.gregorian.specs.Date.{supportedDate, daysSinceEpoch, dayNumber, weekdayOf, weekdayOrZero};
+ghost use Rattle.gregorian.specs.Date.{firstYear, lastYear};
 ghost use Rattle.calendar.specs.DateAnswer.{dateAnswer};
 ghost use Rattle.calendar.specs.Weekday.{withWeekday};
 
@@ -17,7 +18,7 @@ pub enum DateAnswer {
 // Days from 1 January 1970 to a date, less 365 for each year. At 489 / 16 days a month February has 30; from March on
 // two are taken off, and the year's own leap day is counted.
 fn days_less_years(year: u16, month: u8, day: u8) -> u32
-    requires { ⌜ supportedDate year month day ≡ true ⌝ }
+    requires { ⌜ supportedDate firstYear lastYear year month day ≡ true ⌝ }
     ensures { λ r. ⌜ 365 * (year - 1970) + r ≡ daysSinceEpoch year month day ⌝ }
 {
     let years = (year - 1970) as u32;
@@ -27,7 +28,7 @@ fn days_less_years(year: u16, month: u8, day: u8) -> u32
 
 // Days from 1 January 1970 to a date.
 pub(crate) fn days_since_epoch(year: u16, month: u8, day: u8) -> u32
-    requires { ⌜ supportedDate year month day ≡ true ⌝ }
+    requires { ⌜ supportedDate firstYear lastYear year month day ≡ true ⌝ }
     ensures { λ r. ⌜ r ≡ daysSinceEpoch year month day ⌝ }
 {
     365 * ((year - 1970) as u32) + days_less_years(year, month, day)

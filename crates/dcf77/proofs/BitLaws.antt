@@ -8,7 +8,7 @@ use mathlib.Core.List.{List, _∷_}
 use lib.ListN.{getD}
 use Rattle.clock_time.specs.Lists.{sum, slice}
 use Rattle.clock_time.proofs.ListsLaws.{slice-slice}
-use Rattle.gregorian.specs.Date.{fullYear}
+use Rattle.gregorian.specs.Date.{fullYear, firstYear}
 use Rattle.dcf77.specs.Marks.{binary, twoDigits, longs, bits}
 use Rattle.dcf77.specs.Minute.{withParity}
 use Rattle.dcf77.proofs.MarkLaws.{low-part, high-part}
@@ -71,6 +71,6 @@ pub two-digits : (m : List ℕ) (at tens n : ℕ) → binary 4 at m ≡ n % 10 �
 unfolding twoDigits
 two-digits m at tens n low high = rw (low, high) (omega arith)
 
-pub year-digits : (n : ℕ) → n < 100 → (fullYear n % 10 ≡ n % 10) × (fullYear n / 10 % 10 ≡ n / 10)
+pub year-digits : (n : ℕ) → n < 100 → (fullYear firstYear n % 10 ≡ n % 10) × (fullYear firstYear n / 10 % 10 ≡ n / 10)
 unfolding fullYear
 year-digits n h = (omega arith, omega arith)

@@ -8,7 +8,7 @@ use borrow.Author.Tests.{not-true, eqb-true, ltb-true}
 use Rattle.clock_time.specs.Zone.{cetOffset}
 use Rattle.clock_time.specs.Same.{eqℤ}
 use Rattle.clock_time.proofs.Tests.{both}
-use Rattle.gregorian.specs.Date.{supportedDate}
+use Rattle.gregorian.specs.Date.{supportedDate, firstYear, lastYear}
 use Rattle.calendar.specs.Representable.{isRepresentable}
 use Rattle.calendar.proofs.RepresentableLaws.{represented}
 use Rattle.dcf77.specs.Writable.{fieldsRepresentable, minuteRepresentable}
@@ -26,7 +26,7 @@ zone-told z false h = offset-told z 60 h
 
 -- a minute whose fields pass
 pub record Fits (a : MinuteTime) : Type 0 where
-  pub supported-date : supportedDate (a .time .year) (a .time .month) (a .time .day) ≡ true
+  pub supported-date : supportedDate firstYear lastYear (a .time .year) (a .time .month) (a .time .day) ≡ true
   pub zone : a .time .«utc_offset» ≡ cetOffset (a .time .«summer_time»)
   pub weekday-least : 1 ≤ a .time .weekday
   pub weekday-most : a .time .weekday ≤ 7

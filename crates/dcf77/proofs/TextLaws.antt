@@ -12,7 +12,7 @@ use borrow.Author.Tests.{not-false, eqb-true, lt-ltb}
 use Rattle.clock_time.specs.Zone.{cetOffset}
 use Rattle.clock_time.proofs.Tests.{both}
 use Rattle.clock_time.specs.Lists.{sum, slice}
-use Rattle.gregorian.specs.Date.{dateExists, supportedDate, fullYear}
+use Rattle.gregorian.specs.Date.{dateExists, supportedDate, fullYear, firstYear}
 use Rattle.gregorian.proofs.DateLaws.{Known, known}
 use Rattle.gregorian.proofs.RulesLaws.{date-exactly}
 use Rattle.calendar.specs.TimeOfDay.{timeExists}
@@ -116,7 +116,7 @@ module _ (a : MinuteTime) (w : Fits a) where
   month-text : twoDigits 45 1 (minuteText a) ≡ a .time .month
   month-text = two-digits (minuteText a) 45 1 _ (spelled .month) (spelled .monthTens)
 
-  year-text : fullYear (twoDigits 50 4 (minuteText a)) ≡ a .time .year
+  year-text : fullYear firstYear (twoDigits 50 4 (minuteText a)) ≡ a .time .year
   unfolding twoDigits fullYear
   year-text = rw (spelled .year, spelled .decade) (omega (arith, date .year-least, date .year-most))
 

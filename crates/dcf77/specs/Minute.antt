@@ -10,7 +10,7 @@ use Rattle.clock_time.specs.Same.{sameTime}
 use Rattle.clock_time.specs.Writing.{Written, writeBack}
 use Rattle.clock_time.specs.declared.ClockTime.{ClockTime}
 use Rattle.clock_time.specs.Lists.{sum}
-use Rattle.gregorian.specs.Date.{dateExists, fullYear}
+use Rattle.gregorian.specs.Date.{dateExists, fullYear, firstYear}
 use Rattle.calendar.specs.TimeOfDay.{timeExists}
 use Rattle.dcf77.specs.Marks.{long, short, allSure, binary, twoDigits, isOdd, bits}
 use Rattle.dcf77.specs.declared.MinuteTime.{MinuteTime}
@@ -26,7 +26,7 @@ use Rattle.dcf77.specs.declared.MinuteAnswer.the-variants.{Read, Refused
 unfoldable pub announced : List ℕ → ClockTime
 announced m =
     record {
-      year = fullYear (twoDigits 50 4 m);
+      year = fullYear firstYear (twoDigits 50 4 m);
       month = twoDigits 45 1 m;
       day = twoDigits 36 2 m;
       weekday = binary 3 42 m;

@@ -7,7 +7,7 @@ use lib.IntN.{pos}
 use Rattle.clock_time.specs.Zone.{cetOffset}
 use Rattle.clock_time.specs.Errors.{accepted}
 use Rattle.clock_time.specs.Same.{eqℤ}
-use Rattle.gregorian.specs.Date.{supportedDate}
+use Rattle.gregorian.specs.Date.{supportedDate, firstYear, lastYear}
 use Rattle.gregorian.proofs.DateLaws.{supported-exists}
 use Rattle.gregorian.proofs.RulesLaws.{date-exactly}
 use Rattle.dcf77.specs.Marks.{long, twoDigits}
@@ -16,7 +16,7 @@ use Rattle.dcf77.specs.declared.MinuteTime.{MinuteTime}
 use Rattle.dcf77.proofs.AcceptLaws.{read-keeps}
 
 pub accepted-known : (m : List ℕ) (a : MinuteTime) → readMinute m ≡ accepted a
-    → supportedDate (a .time .year) (a .time .month) (a .time .day) ≡ true
+    → supportedDate firstYear lastYear (a .time .year) (a .time .month) (a .time .day) ≡ true
 unfolding minuteFields announced
 accepted-known m a h =
     let w = read-keeps m a h in

@@ -8,13 +8,13 @@ ghost use Prim.Native.Nat.{_+_, _*_, _<_};
 ghost use lib.IntN.{pos};
 ghost use Rattle.clock_time.specs.Errors.{accepted};
 ghost use Rattle.clock_time.specs.Same.{eqℤ};
-ghost use Rattle.gregorian.specs.Date.{supportedDate, daysSinceEpoch};
+ghost use Rattle.gregorian.specs.Date.{supportedDate, daysSinceEpoch, firstYear, lastYear};
 ghost use Rattle.dcf77.specs.Minute.{mark};
 ghost use Rattle.dcf77_outcome.specs.Number.{outcomeNumber, runNumber};
 
 // Days from 1 January 1970 to a date that exists.
 fn days_to(year: u16, month: u8, day: u8) -> u32
-    requires { ⌜ supportedDate year month day ≡ true ⌝ }
+    requires { ⌜ supportedDate firstYear lastYear year month day ≡ true ⌝ }
     ensures { λ r. ⌜ r ≡ daysSinceEpoch year month day ⌝ }
 {
     match calendar::date::day_number(year, month, day) {
@@ -45,7 +45,7 @@ fn flags_number(sixty: bool, summer: bool, antenna: bool, change: bool, leap: bo
 
 // The number of a minute that was read, from its date, its time of day and what the flags add.
 fn minute_number(year: u16, month: u8, day: u8, hour: u8, minute: u8, flags: u32) -> u32
-    requires { ⌜ (supportedDate year month day ≡ true) × (flags < 8192) ⌝ }
+    requires { ⌜ (supportedDate firstYear lastYear year month day ≡ true) × (flags < 8192) ⌝ }
     ensures { λ r. ⌜ r ≡ 100 + 32 * (1440 * daysSinceEpoch year month day + 60 * hour + minute) + flags ⌝ }
 {
     100 + 32 * local_minutes(days_to(year, month, day), hour, minute) + flags
@@ -53,7 +53,7 @@ fn minute_number(year: u16, month: u8, day: u8, hour: u8, minute: u8, flags: u32
 
 // The number of a minute that was read.
 fn number_of(a: MinuteTime) -> u32
-    requires { ⌜ (supportedDate (a .time .year) (a .time .month) (a .time .day) ≡ true)
+    requires { ⌜ (supportedDate firstYear lastYear (a .time .year) (a .time .month) (a .time .day) ≡ true)
         × (eqℤ (a .time .«utc_offset») (pos 120) ≡ a .time .«summer_time») ⌝ }
     ensures { λ r. ⌜ r ≡ outcomeNumber (accepted a) ⌝ }
 {

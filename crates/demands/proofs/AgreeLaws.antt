@@ -13,7 +13,7 @@ use Rattle.clock_time.specs.Order.{Line, numbersOf}
 use Rattle.clock_time.specs.declared.ClockTime.{ClockTime}
 use Rattle.clock_time.proofs.ExactLaws.{eq-exactly, le-exactly, lt-exactly, not-exactly, either-exactly}
 use Rattle.clock_time.proofs.OrderLaws.{Agree, agree-append}
-use Rattle.gregorian.specs.Date.{supportedDate}
+use Rattle.gregorian.specs.Date.{supportedDate, firstYear, lastYear}
 use Rattle.calendar.specs.UnixTime.{isReading}
 use Rattle.gregorian.proofs.RulesLaws.{supported-exactly}
 use Rattle.calendar.proofs.RulesLaws.{valid-exactly}
@@ -65,7 +65,7 @@ pub instant-agrees : (t : ClockTime) → Agree (given 23 (not (isReading t)) ∷
 instant-agrees t = (refl, not-exactly _ (valid-exactly t), λ p. tt)
 
 pub date-agrees : (year month day : ℕ) →
-    Agree (given 5 (not (supportedDate year month day)) ∷ []) (dateLines year month day)
+    Agree (given 5 (not (supportedDate firstYear lastYear year month day)) ∷ []) (dateLines year month day)
 date-agrees year month day = (refl, not-exactly _ (supported-exactly year month day), λ p. tt)
 
 -- ---- from C

@@ -13,7 +13,7 @@ use Rattle.clock_time.specs.Errors.{Check, given, checked}
 use Rattle.clock_time.specs.Called.{calledAnswer, calledMemory, calledBoth}
 use Rattle.clock_time.specs.Writing.{writing}
 use Rattle.clock_time.specs.declared.ClockTime.{ClockTime}
-use Rattle.gregorian.specs.Date.{supportedDate, dayNumber, weekdayOf}
+use Rattle.gregorian.specs.Date.{supportedDate, dayNumber, weekdayOf, firstYear, lastYear}
 use Rattle.calendar.specs.UnixTime.{isReading, instantOf, unixTime}
 use Rattle.decimal.specs.Decimal.{value, firstNonDigit, digits, readDigits, writeDigits}
 use Rattle.layout.specs.Text.{clockChecks, textChecks, readText}
@@ -163,12 +163,14 @@ unix-time t = ordered (instantOf t) (given 23 (not (isReading t)) ∷ []) _ (agr
 pub day-number : (year month day : ℕ) → RefusesInOrder (dateLines year month day) (5 ∷ []) (dayNumber year month day)
 unfolding dayNumber
 day-number year month day =
-    ordered _ (given 5 (not (supportedDate year month day)) ∷ []) _ (agrees.date-agrees year month day) _ refl
+    ordered _ (given 5 (not (supportedDate firstYear lastYear year month day)) ∷ []) _
+    (agrees.date-agrees year month day) _ refl
 
 pub weekday : (year month day : ℕ) → RefusesInOrder (dateLines year month day) (5 ∷ []) (weekdayOf year month day)
 unfolding weekdayOf
 weekday year month day =
-    ordered _ (given 5 (not (supportedDate year month day)) ∷ []) _ (agrees.date-agrees year month day) _ refl
+    ordered _ (given 5 (not (supportedDate firstYear lastYear year month day)) ∷ []) _
+    (agrees.date-agrees year month day) _ refl
 
 -- ---- from numbers
 pub write-string : (n : ℕ) (z : List ℤ) (d : List ℕ) →

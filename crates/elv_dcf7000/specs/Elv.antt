@@ -10,7 +10,7 @@ use Rattle.clock_time.specs.Same.{eqℤ}
 use Rattle.clock_time.specs.Writing.{Written}
 use Rattle.clock_time.specs.declared.ClockTime.{ClockTime}
 use Rattle.clock_time.specs.Lists.{ascii}
-use Rattle.gregorian.specs.Date.{fullYear, weekdayOrZero}
+use Rattle.gregorian.specs.Date.{fullYear, weekdayOrZero, firstYear}
 use Rattle.calendar.specs.Weekday.{withWeekday}
 use Rattle.decimal.specs.Decimal.{digits}
 use Rattle.layout.specs.Layout.{digit, places, number}
@@ -52,7 +52,7 @@ elvOffset summer = cetOffset summer
 unfoldable pub sentFields : List ℕ → ClockTime
 sentFields s =
     record {
-      year = fullYear (number 2 0 s);
+      year = fullYear firstYear (number 2 0 s);
       month = number 2 3 s;
       day = number 2 6 s;
       weekday = 0;

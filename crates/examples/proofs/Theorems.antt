@@ -28,10 +28,11 @@ use Rattle.examples.specs.Examples.{AllHold, examples}
 pub examples-hold : AllHold examples
 unfolding
     readGps gps readText textChecks supportedDay clockChecks gpsLayout ascii allowed errorAt offence first isDigit
-    valueFrom offsetFault offsetOf signHolds signed leapMismatch clockOf gpsFields positionFault positionDigits angleDigits
-    rightAligned areDigits inRange angleOf positionOf isLeapYear monthLengths daysInMonth dateExists fullYear
-    supportedDate daysOfYears daysBeforeMonth daysSinceEpoch modulo utcMinute timeExists offsetInRange isReading instantOf unixTime
-    fillOutcomes correctMark numbers differ differences ruleBy reached Option·toList gapBefore firstGap gapAfter
-    runNumber readMinute minuteChecks minuteFields announced allSure binary twoDigits longs isOdd eqℤ
+    valueFrom offsetFault offsetOf signHolds signed leapMismatch clockOf gpsFields positionFault positionDigits
+    angleDigits rightAligned areDigits inRange angleOf positionOf isLeapYear monthLengths daysInMonth dateExists
+    fullYear supportedDate daysOfYears daysBeforeMonth daysSinceEpoch modulo utcMinute timeExists offsetInRange
+    isReading instantOf unixTime fillOutcomes correctMark numbers differ differences ruleBy reached Option·toList
+    gapBefore firstGap gapAfter runNumber readMinute minuteChecks minuteFields announced allSure binary twoDigits longs
+    isOdd eqℤ
 examples-hold =
     (refl, (refl, ((refl, refl), (refl, (refl, (refl, (refl, (refl, (refl, ((refl, refl), ((refl, refl), tt)))))))))))

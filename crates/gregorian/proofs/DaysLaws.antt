@@ -14,6 +14,7 @@ use Rattle.clock_time.specs.Errors.{accepted, given, checked}
 use Rattle.clock_time.proofs.ErrorLaws.{accepted-passes}
 use Rattle.clock_time.specs.Lists.{sum}
 use Rattle.gregorian.specs.Date.{isLeapYear, monthLengths, daysInMonth, dateExists, supportedDate, daysOfYears}
+use Rattle.gregorian.specs.Date.{firstYear, lastYear}
 use Rattle.gregorian.specs.Date.{daysBeforeMonth, daysSinceEpoch, dayNumber, weekdayNumber, weekdayOf}
 use Rattle.gregorian.specs.Date.{weekdayOrZero}
 use Rattle.gregorian.specs.Rules.{GregorianDate}
@@ -188,11 +189,12 @@ weekday-counted year month day w = (
 -- ---- the answers
 -- a number of a date that is known
 module _ (year month day number : ℕ) where
-  answered : (n : ℕ) → (checked (given 5 (not (supportedDate year month day)) ∷ []) number ≡ accepted n)
+  answered : (n : ℕ)
+      → (checked (given 5 (not (supportedDate firstYear lastYear year month day)) ∷ []) number ≡ accepted n)
       ↔ ((1970 ≤ year) × (year ≤ 2069) × GregorianDate year month day × (n ≡ number))
   answered n = (
     λ h.
-        let w = accepted-passes (given 5 (not (supportedDate year month day)) ∷ []) number n h in
+        let w = accepted-passes (given 5 (not (supportedDate firstYear lastYear year month day)) ∷ []) number n h in
         let k = supported-exactly year month day .0 (not-false _ (w .0 .0)) in (k .0, k .1, k .2, w .1),
     λ k. rw (supported-exactly year month day .1 (k .0, k .1, k .2), k .3),
   )
@@ -222,9 +224,10 @@ module _ (year month day w : ℕ) (first : 1970 ≤ year) (last : year ≤ 2069)
       ↔ ((GregorianDate year month day → OnWeekday year month day w)
       × ((GregorianDate year month day → ⊥) → w ≡ 0))
   unfolding weekdayOrZero
-  weekday-or-zero = go (supportedDate year month day) refl
+  weekday-or-zero = go (supportedDate firstYear lastYear year month day) refl
     where
-      go : (t : Bool) → supportedDate year month day ≡ t → (w ≡ cond t (weekdayNumber year month day) 0)
+      go : (t : Bool) → supportedDate firstYear lastYear year month day ≡ t
+          → (w ≡ cond t (weekdayNumber year month day) 0)
           ↔ ((GregorianDate year month day → OnWeekday year month day w)
           × ((GregorianDate year month day → ⊥) → w ≡ 0))
       go true e =

@@ -13,7 +13,7 @@ use Rattle.clock_time.specs.declared.ClockTime.{ClockTime}
 use Rattle.clock_time.proofs.FaithfulLaws.{decided}
 use Rattle.clock_time.proofs.SameLaws.{eqb-refl, sameTime-refl, sameTime-true}
 use Rattle.clock_time.proofs.Tests.{both}
-use Rattle.gregorian.specs.Date.{fullYear, supportedDate}
+use Rattle.gregorian.specs.Date.{fullYear, supportedDate, firstYear, lastYear}
 use Rattle.calendar.specs.UnixTime.{offsetInRange, isReading}
 use Rattle.calendar.specs.Representable.{isRepresentable}
 use Rattle.calendar.proofs.ValidLaws.{full-year-last-two}
@@ -38,7 +38,7 @@ letter-read false n h = h
 
 -- ---- the numbers of a clock time that is representable are read as they were written
 module _ (t : ClockTime) (h : isRepresentable t ≡ true) where
-  pub year-written : fullYear (value (digits 2 (t .year))) ≡ t .year
+  pub year-written : fullYear firstYear (value (digits 2 (t .year))) ≡ t .year
   year-written =
       let d = represented t h .date in
       let small : t .year % 100 < 100 = omega arith in
@@ -88,11 +88,13 @@ module _
     abbrev f : Format A
     f = w .format
 
-    date : (t : ClockTime) → supportedDay t ≡ true → supportedDate (t .year) (t .month) (t .day) ≡ true
+    date : (t : ClockTime) → supportedDay t ≡ true
+        → supportedDate firstYear lastYear (t .year) (t .month) (t .day) ≡ true
     unfolding supportedDay
     date t h = h
 
-    supports : (t : ClockTime) → supportedDate (t .year) (t .month) (t .day) ≡ true → supportedDay t ≡ true
+    supports : (t : ClockTime) → supportedDate firstYear lastYear (t .year) (t .month) (t .day) ≡ true
+        → supportedDay t ≡ true
     unfolding supportedDay
     supports t h = h
 

@@ -16,7 +16,7 @@ use Rattle.clock_time.specs.Lists.{slice}
 use Rattle.clock_time.proofs.ListsLaws.{length-slice}
 use Rattle.decimal.specs.Decimal.{digits}
 use Rattle.decimal.proofs.DecimalLaws.{digits-value}
-use Rattle.gregorian.specs.Date.{fullYear}
+use Rattle.gregorian.specs.Date.{fullYear, firstYear}
 use Rattle.layout.specs.Layout.{flagOf, allowed, FitsLayout, number}
 use Rattle.layout.proofs.LayoutLaws.{flag-test}
 use Rattle.layout.proofs.LayoutLaws.{allDigits, place-within, slice-digits, number-below}
@@ -59,7 +59,7 @@ year-digits y =
     let ones : y % 100 % 10 ≡ y % 10 = omega arith in
     rw (tens, ones)
 
-full-year : (n : ℕ) → n < 100 → fullYear n % 100 ≡ n
+full-year : (n : ℕ) → n < 100 → fullYear firstYear n % 100 ≡ n
 unfolding fullYear
 full-year n h = omega arith
 
@@ -68,7 +68,8 @@ module _ {l s : List ℕ} (h : FitsLayout l s) where
   digits-number n at d = rw (length-slice n at s) at (digits-value (slice at n s) (slice-digits h n at d))
 
   -- a year's last two digits are those that were read
-  pub digits-year : (at : ℕ) → allDigits (slice at 2 l) ≡ true → digits 2 (fullYear (number 2 at s)) ≡ slice at 2 s
+  pub digits-year : (at : ℕ) → allDigits (slice at 2 l) ≡ true
+      → digits 2 (fullYear firstYear (number 2 at s)) ≡ slice at 2 s
   digits-year at d =
       year-digits _ ∙ rw (full-year (number 2 at s) (number-below h 2 at d)) (digits-number 2 at d)
 

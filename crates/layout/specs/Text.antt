@@ -9,7 +9,7 @@ use Rattle.clock_time.specs.Errors.{Answer, Check, given, checked}
 use Rattle.clock_time.specs.Same.{sameTime}
 use Rattle.clock_time.specs.Writing.{Written, writeBack}
 use Rattle.clock_time.specs.declared.ClockTime.{ClockTime}
-use Rattle.gregorian.specs.Date.{supportedDate}
+use Rattle.gregorian.specs.Date.{supportedDate, firstYear, lastYear}
 use Rattle.calendar.specs.TimeOfDay.{timeExists}
 use Rattle.decimal.specs.Decimal.{digits}
 use Rattle.layout.specs.Layout.{found}
@@ -34,7 +34,7 @@ pub record WrittenFormat (A : Type 0) : Type 0 where
 
 -- "year 1970 to 2069, a date" (01, The reading)
 unfoldable pub supportedDay : ClockTime → Bool
-supportedDay t = supportedDate (t .year) (t .month) (t .day)
+supportedDay t = supportedDate firstYear lastYear (t .year) (t .month) (t .day)
 
 -- a format of clock times alone, which has no faults of its own but in its flags
 abbrev pub clockFormat : List ℕ → (List ℕ → Bool) → (List ℕ → ClockTime) → Format ClockTime

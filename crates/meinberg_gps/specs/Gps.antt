@@ -12,7 +12,7 @@ use Rattle.clock_time.specs.Writing.{Written}
 use Rattle.clock_time.specs.declared.ClockTime.{ClockTime}
 use Rattle.clock_time.specs.declared.Position.{Position}
 use Rattle.clock_time.specs.Lists.{ascii, slice}
-use Rattle.gregorian.specs.Date.{fullYear}
+use Rattle.gregorian.specs.Date.{fullYear, firstYear}
 use Rattle.decimal.specs.Decimal.{digits}
 use Rattle.layout.specs.Layout.{digit, free, flag, places, number, has}
 use Rattle.layout.specs.Text.{Format, WrittenFormat, supportedDay, clockChecks, readText, writeText, letter}
@@ -62,7 +62,7 @@ leapMismatch s = not (Bool·beq (has "L" 38 s) (eqb (number 2 20 s) 60))
 unfoldable pub clockOf : List ℕ → ClockTime
 clockOf s =
     record {
-      year = fullYear (number 2 7 s);
+      year = fullYear firstYear (number 2 7 s);
       month = number 2 4 s;
       day = number 2 1 s;
       weekday = number 1 11 s;

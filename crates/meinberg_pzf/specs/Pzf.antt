@@ -9,7 +9,7 @@ use Rattle.clock_time.specs.Same.{eqℤ}
 use Rattle.clock_time.specs.Writing.{Written}
 use Rattle.clock_time.specs.declared.ClockTime.{ClockTime}
 use Rattle.clock_time.specs.Lists.{ascii}
-use Rattle.gregorian.specs.Date.{fullYear}
+use Rattle.gregorian.specs.Date.{fullYear, firstYear}
 use Rattle.decimal.specs.Decimal.{digits}
 use Rattle.layout.specs.Layout.{digit, flag, places, number, has}
 use Rattle.layout.specs.Text.{Format, clockFormat, writtenClock, readText, writeText, letter}
@@ -33,7 +33,7 @@ pzfOffset utc summer = cond utc (pos 0) (cetOffset summer)
 unfoldable pub pzfFields : List ℕ → ClockTime
 pzfFields s =
     record {
-      year = fullYear (number 2 7 s);
+      year = fullYear firstYear (number 2 7 s);
       month = number 2 4 s;
       day = number 2 1 s;
       weekday = number 1 11 s;

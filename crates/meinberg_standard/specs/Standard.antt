@@ -12,7 +12,7 @@ use Rattle.clock_time.specs.Same.{eqℤ}
 use Rattle.clock_time.specs.Writing.{Written}
 use Rattle.clock_time.specs.declared.ClockTime.{ClockTime}
 use Rattle.clock_time.specs.Lists.{ascii}
-use Rattle.gregorian.specs.Date.{fullYear}
+use Rattle.gregorian.specs.Date.{fullYear, firstYear}
 use Rattle.decimal.specs.Decimal.{digits}
 use Rattle.layout.specs.Layout.{digit, flag, either, places, number, has}
 use Rattle.layout.specs.Text.{Format, clockFormat, writtenClock, readText, writeText, letter}
@@ -35,7 +35,7 @@ standardZone x = cond (eqb x (code "U")) (pos 0) (cetOffset (eqb x (code "S")))
 unfoldable pub standardFields : List ℕ → ClockTime
 standardFields s =
     record {
-      year = fullYear (number 2 9 s);
+      year = fullYear firstYear (number 2 9 s);
       month = number 2 6 s;
       day = number 2 3 s;
       weekday = number 1 14 s;

@@ -7,7 +7,7 @@ use mir.Val.{SFits}
 use mir.Facts.{toZ-ofZ}
 use Rattle.clock_time.specs.Errors.{accepted, checked}
 use Rattle.clock_time.specs.declared.ClockTime.{ClockTime}
-use Rattle.gregorian.specs.Date.{supportedDate}
+use Rattle.gregorian.specs.Date.{supportedDate, firstYear, lastYear}
 use Rattle.calendar.specs.TimeOfDay.{timeExists}
 use Rattle.calendar.specs.Weekday.{withWeekday}
 use Rattle.calendar.proofs.WeekdayLaws.{weekday-least, weekday-most}
@@ -30,7 +30,7 @@ returns-2 c =
     simp (← (d .before .is-supported-date .ensures), d .if1 .left, ← time, c .if2 .taken)
 
 -- a date and a time that exist, with the weekday of the date
-passes : (t : ClockTime) → supportedDate (t .year) (t .month) (t .day) ≡ true
+passes : (t : ClockTime) → supportedDate firstYear lastYear (t .year) (t .month) (t .day) ≡ true
     → timeExists (t .hour) (t .minute) (t .second) (t .«utc_offset») ≡ true
     → accepted (withWeekday t) ≡ checked (clockChecks (supportedDay t) (withWeekday t) false) (withWeekday t)
 unfolding clockChecks supportedDay withWeekday

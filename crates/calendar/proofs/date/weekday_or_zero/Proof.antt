@@ -3,13 +3,13 @@ use native.Mathlib.Omega.{arith}
 use Prim.Native.Nat.{_+_, _-_, _<_}
 use mathlib.Core.Path.{_≡_, sym, _∙_}
 use mathlib.Core.Bool.{true}
-use Rattle.gregorian.specs.Date.{supportedDate, weekdayOrZero}
+use Rattle.gregorian.specs.Date.{supportedDate, weekdayOrZero, firstYear, lastYear}
 use Rattle.gregorian.proofs.DateLaws.{known, rest-small, weekday-sum}
 use Rattle.calendar.proofs.date.weekday_or_zero.Statement.{statement}
 use Rattle.calendar.proofs.date.weekday_or_zero.Tie as tie
 
 dated : (c : tie.Then1)
-    → let x = c .before .before .args in supportedDate (x .year) (x .month) (x .day) ≡ true
+    → let x = c .before .before .args in supportedDate firstYear lastYear (x .year) (x .month) (x .day) ≡ true
 dated c = sym (c .before .is-supported-date .ensures) ∙ c .if1 .taken
 
 sub-days : tie.Need-sub-days

@@ -8,13 +8,13 @@ use mir.Facts.{toZ-ofZ}
 use borrow.Author.Needs.{sfits-of}
 use Rattle.clock_time.proofs.Tests.{both}
 use Rattle.clock_time.specs.declared.ClockTime.{ClockTime}
-use Rattle.gregorian.specs.Date.{supportedDate}
+use Rattle.gregorian.specs.Date.{supportedDate, firstYear, lastYear}
 use Rattle.calendar.specs.UnixTime.{isReading, instantOf}
 use Rattle.gregorian.proofs.DateLaws.{days-small}
 use Rattle.calendar.proofs.unix_time.instant_of.Statement.{statement}
 use Rattle.calendar.proofs.unix_time.instant_of.Tie as tie
 
-dated : (t : ClockTime) → isReading t ≡ true → supportedDate (t .year) (t .month) (t .day) ≡ true
+dated : (t : ClockTime) → isReading t ≡ true → supportedDate firstYear lastYear (t .year) (t .month) (t .day) ≡ true
 unfolding isReading
 dated t h = both _ _ (both _ _ (both _ _ (both _ _ h .0) .0) .0) .0
 

@@ -17,7 +17,7 @@ bool one_in(size_t bound);
 size_t fields_of(int format);
 size_t length_of(int format);
 
-/* The fields of a reading that the format can carry; ANY is a valid reading that perhaps no format representable. */
+/* The fields of a reading that the format can represent; ANY is a valid reading that perhaps none can. */
 void make_fields(int format, int32_t *fields);
 
 /* Changes some of the fields: neighbours, numbers that agree in their low bits, limits, noise. */

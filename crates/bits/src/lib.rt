@@ -4,14 +4,14 @@ ghost use mathlib.Core.Bool.{cond};
 ghost use Prim.Native.Nat.{_+_, _*_, _%_};
 ghost use lib.Count.{ones};
 
-// 1 where the bit is set, else 0.
+// 1 if the bit is set, else 0.
 pub fn bit(on: bool) -> u8
     ensures { λ r. ⌜ r ≡ cond on 1 0 ⌝ }
 {
     on as u8
 }
 
-// 1 where an odd number of bits is set, else 0.
+// 1 if an odd number of bits is set, else 0.
 pub fn parity(n: u64) -> u64
     ensures { λ r. ⌜ r ≡ ones n % 2 ⌝ }
 {

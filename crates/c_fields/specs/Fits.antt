@@ -6,7 +6,8 @@ use Rattle.clock_time.specs.declared.ClockTime.{ClockTime}
 use Rattle.clock_time.specs.declared.Position.{Position}
 use Rattle.c_fields.specs.Ranges.{i16Range, i32Range, within}
 
--- a clock time whose numbers fit the fields of `ClockTime`, as those of each do that a function takes or returns
+-- a clock time whose numbers fit the fields of `ClockTime`, as those of every one do that a function takes or
+-- returns
 pub record FitsClockTime (t : ClockTime) : Type 0 where
   pub year : t .year ≤ 65535
   pub month : t .month ≤ 255

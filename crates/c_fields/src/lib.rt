@@ -43,7 +43,7 @@ const MINUTE_LEAST: [i32; MINUTE_FIELDS] = [0, 0, 0, 0, 0, 0, 0, -32768, 0, 0, 0
 
 const MINUTE_MOST: [i32; MINUTE_FIELDS] = [W, B, B, B, B, B, B, 32767, 1, 1, 1, 1, 1, 1, W, 1];
 
-// True where the first numbers are in the ranges with these ends. It looks at all, which is quicker than to stop early.
+// Whether the first numbers are in the ranges with these ends. It looks at all, which is quicker than to stop early.
 fn are_within(least: &[i32], most: &[i32], z: &[i32]) -> bool
     requires { ⌜ length (now least) ≡ length (now most) ⌝ }
     ensures { λ r. ⌜ r ≡ fits (ranges (now (least .entry)) (now (most .entry))) (now (z .entry)) ⌝ }

@@ -30,7 +30,7 @@ pub product-magnitude : (k : ℕ) (z : ℤ) → mag (pos k *ℤ z) ≤ k * suc (
 product-magnitude k (pos n) = mul-le-mul-left k (omega arith)
 product-magnitude k (negsuc n) = negated-magnitude (k * suc n)
 
--- a less z, with a multiple of 1,440 above z's size added, is above zero and has the same remainder
+-- a less z, with a multiple of 1,440 above z's magnitude added, is above zero and has the same remainder
 pub record Shifted (a : ℕ) (z : ℤ) : Type 0 where
   pub above : T (nonNeg (pos (a + 33120) -ℤ z))
   pub small : natAbs (pos (a + 33120) -ℤ z) ≤ a + 66000

@@ -1,9 +1,9 @@
-// What strings and minutes can represent.
+// What every writer asks of a clock time.
 use clock_time::ClockTime;
 ghost use mathlib.Core.Path.{_≡_};
 ghost use Rattle.calendar.specs.Representable.{isRepresentable};
 
-// Whether a clock time can be represented, before what the format itself can.
+// Whether a clock time has what every writer asks, before its format's own test of zone and flags.
 pub fn is_representable(t: ClockTime) -> bool
     ensures { λ r. ⌜ r ≡ isRepresentable t ⌝ }
 {

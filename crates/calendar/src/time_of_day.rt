@@ -2,7 +2,8 @@
 ghost use mathlib.Core.Path.{_≡_};
 ghost use Rattle.calendar.specs.TimeOfDay.{utcMinute, timeExists};
 
-// The minute of the UTC day. 33,120 is a multiple of 1,440 above any offset's size, so that nothing falls below zero.
+// The minute of the UTC day. 33,120 is a multiple of 1,440 above any offset's magnitude, so that nothing falls below
+// zero.
 fn utc_minute(hour: u8, minute: u8, offset: i16) -> u32
     ensures { λ r. ⌜ r ≡ utcMinute hour minute offset ⌝ }
 {

@@ -22,7 +22,7 @@ pub fn offset_in_range(offset: i16) -> bool
     (-840 <= offset) & (offset <= 840)
 }
 
-// True where the fields of a clock time are those of a reading; the flags play no part.
+// Whether the fields of a clock time are those of a reading; the flags play no part.
 pub fn is_reading(t: ClockTime) -> bool
     ensures { λ r. ⌜ r ≡ isReading t ⌝ }
 {

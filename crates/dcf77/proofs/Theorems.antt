@@ -34,7 +34,7 @@ faithful =
 -- its first sentence by itself
 pub read-minute-exactly : (m : List ℕ) (a : MinuteTime) → (readMinute m ≡ accepted a)
     ↔ (RunRules m × SaysMinute m a × ReadingRules (a .time) × LeapRule m (a .time))
-read-minute-exactly = faithful .accepted-exactly
+read-minute-exactly = faithful .reader .accepted-exactly
 
 -- and refused with a number exactly if its line of the table in words holds and no earlier one does: "Each number is
 -- given when its line holds and no earlier one does, and never otherwise." (01, Refusal numbers)

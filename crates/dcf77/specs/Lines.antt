@@ -21,12 +21,13 @@ minuteLines m =
     ∷ line 13 ((Short m 0 → ⊥) ⊎ (Long m 20 → ⊥))
     -- "marks 17 and 18 equal"
     ∷ line 14 (getD m 17 0 ≡ getD m 18 0)
-    -- "minute, hour, date parity"; "Parity is even over 21..28, 29..35 and 36..58." (01, DCF77 marks)
+    -- "minute, hour, date parity" (01, Refusal numbers); "Parity is even over 21..28, 29..35 and 36..58." (01, DCF77
+    -- marks)
     ∷ line 15 (Even 21 28 m → ⊥)
     ∷ line 16 (Even 29 35 m → ⊥)
     ∷ line 17 (Even 36 58 m → ⊥)
-    -- "a decimal digit above 9"; "minute 21..24 [..]; hour 29..32, [..]; day 36..39, [..]; month 45..48, [..]; year
-    -- 50..53, tens 54..57" (01, DCF77 marks)
+    -- "a decimal digit above 9" (01, Refusal numbers); "minute 21..24 [..]; hour 29..32, [..]; day 36..39, [..]; month
+    -- 45..48, [..]; year 50..53, tens 54..57" (01, DCF77 marks)
     ∷ line 18
     ((9 < fourMarks m 21) ⊎ (9 < fourMarks m 29) ⊎ (9 < fourMarks m 36) ⊎ (9 < fourMarks m 45) ⊎ (9 < fourMarks m 50)
     ⊎ (9 < fourMarks m 54))

@@ -43,7 +43,7 @@ announced m =
     }
 
 -- "1..14 kept as sent" (01, DCF77 marks); "a minute adds its marks 1..14 and whether it had 60 marks" (01, The
--- reading); mark 1 is the lowest bit of `marks`
+-- reading); mark 1 is the lowest bit of `first_marks`
 unfoldable pub minuteFields : List ℕ → MinuteTime
 minuteFields m =
     record {

@@ -10,12 +10,13 @@ use Rattle.calendar.specs.Representable.{isRepresentable}
 use Rattle.dcf77.specs.Marks.{bits}
 use Rattle.dcf77.specs.declared.MinuteTime.{MinuteTime}
 
--- a number whose last k bits are these marks
+-- a number of k bits, which are these marks
 pub record Spells (k : ℕ) (m : List ℕ) (n : ℕ) : Type 0 where
   pub below : n < 2 ^ k
   pub marks : bits k n ≡ m
 
--- what only a minute asks of its fields: second 0, no flag that has no mark, 14 marks, and 60 only before a leap second
+-- what only a minute asks of its fields: second 0, no flag that has no mark, 14 marks, and 60 marks only if
+-- a leap second is coming and minute 0 is announced
 unfoldable pub fieldsRepresentable : MinuteTime → Bool
 fieldsRepresentable a =
     let t = a .time in
@@ -24,7 +25,7 @@ fieldsRepresentable a =
     && ltb (a .detail .«first_marks») 16384
     && not (a .detail .sixty && not (t .«leap_second_announced» && eqb (t .minute) 0))
 
--- a run is read as the minute: a minute can represent these fields with the zone's offset, and any format its time
+-- a run is read as the minute: its fields are ones that a minute has, its offset is the zone's, and its time a reading
 unfoldable pub minuteRepresentable : MinuteTime → Bool
 minuteRepresentable a =
     let t = a .time in

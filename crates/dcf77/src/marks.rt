@@ -8,7 +8,7 @@ ghost use lib.Count.{ones};
 ghost use Rattle.dcf77.specs.Marks.{allSure, sureFrom, eightSure, binary};
 ghost use Rattle.dcf77.specs.Numbers.{Sure, fourBytes};
 
-// True where eight marks are short or long: no bit but the lowest is set in any of the bytes.
+// Whether eight marks are short or long: no bit but the lowest is set in any of the bytes.
 fn eight_sure(m: &[u8], at: usize) -> bool
     requires { ⌜ at + 8 ≤ length (now m) ⌝ }
     ensures { λ r. ⌜ r ≡ sureFrom 8 at (now (m .entry)) ⌝ }
@@ -26,7 +26,7 @@ fn eight_sure(m: &[u8], at: usize) -> bool
     bytes & 18374403900871474942 == 0
 }
 
-// True where eight marks from a place on are there, and all of them are short or long.
+// Whether eight marks from a place on are there, and all of them are short or long.
 pub fn are_eight_sure(m: &[u8], at: usize) -> bool
     ensures { λ r. ⌜ r ≡ eightSure at (now (m .entry)) ⌝ }
 {
@@ -39,7 +39,7 @@ pub fn are_eight_sure(m: &[u8], at: usize) -> bool
     eight_sure(m, at)
 }
 
-// True where every mark of a run is short or long. The last eight are taken from the end, so that some are read twice.
+// Whether every mark of a run is short or long. The last eight are taken from the end, so that some are read twice.
 pub(crate) fn all_sure(m: &[u8]) -> bool
     requires { ⌜ (59 ≤ length (now m)) × (length (now m) ≤ 60) ⌝ }
     ensures { λ r. ⌜ r ≡ allSure (now (m .entry)) ⌝ }
@@ -98,7 +98,7 @@ pub(crate) fn read_date(m: &[u8]) -> u32
     low + 256 * (middle + 256 * (read_eight(m, 51) / 2))
 }
 
-// True where an odd number of bits is set.
+// Whether an odd number of bits is set.
 pub(crate) fn is_odd(n: u32) -> bool
     ensures { λ r. ⌜ r ≡ not (eqb (ones n % 2) 0) ⌝ }
 {

@@ -68,7 +68,7 @@ pub(crate) fn fields(m: &[u8], minute: u32, hour: u32, date: u32) -> MinuteTime
     }
 }
 
-// True where 60 marks lack the leap second's announcement, the short mark 59 or minute 0.
+// Whether 60 marks lack the leap second's announcement, the short mark 59 or minute 0.
 fn is_leap_fault(m: &[u8], minute: u8) -> bool
     requires { ⌜ Sure (now m) ⌝ }
     ensures { λ r. ⌜ r ≡ (eqb (length (now (m .entry))) 60
@@ -80,7 +80,7 @@ fn is_leap_fault(m: &[u8], minute: u8) -> bool
     false
 }
 
-// True where none of the six digits of four marks is above 9.
+// Whether none of the six digits of four marks is above 9.
 fn digits_fit(minute: u32, hour: u32, date: u32) -> bool
     ensures { λ r. ⌜ r ≡ (leb (minute % 16) 9 && leb (hour % 16) 9 && leb (date % 16) 9 && leb (date / 512 % 16) 9
         && leb (date / 16384 % 16) 9 && leb (date / 262144 % 16) 9) ⌝ }

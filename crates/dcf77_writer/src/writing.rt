@@ -97,7 +97,7 @@ pub(crate) fn sixty_marks(a: MinuteTime) -> [u8; 60]
     put_bits(spell_run(a))
 }
 
-// True where the offset is that of the zone.
+// Whether the offset is that of the zone.
 fn is_zone_offset(offset: i16, summer: bool) -> bool
     ensures { λ r. ⌜ r ≡ eqℤ offset (cetOffset summer) ⌝ }
 {

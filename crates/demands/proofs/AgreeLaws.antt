@@ -24,7 +24,7 @@ use Rattle.dcf77.specs.Lines.{minuteLines}
 use Rattle.time_string.specs.Kind.{namedKind}
 use Rattle.demands.specs.Lines.{linesAs, kindLines, outcomeLines, fillLines, correctionLines, instantLines}
 use Rattle.demands.specs.Lines.{dateLines, numberCount, readLines, readMinuteLines, feedLines}
-use Rattle.demands.specs.Lines.{textOrder, ownNumbers, roomFor}
+use Rattle.demands.specs.Lines.{textOrder, ownNumbers, noRoomFor}
 use Rattle.demands.proofs.KindLaws.{kind-laws}
 use Rattle.demands.proofs.Checks.{checksAs, kindChecks, roomCheck, readChecks, readMinuteChecks}
 
@@ -69,7 +69,7 @@ pub date-agrees : (year month day : ℕ) →
 date-agrees year month day = (refl, not-exactly _ (supported-exactly year month day), λ p. tt)
 
 -- ---- from C
-room-agrees : (count : ℕ) (fields : List ℤ) → Agree (roomCheck count fields ∷ []) (roomFor count fields ∷ [])
+room-agrees : (count : ℕ) (fields : List ℤ) → Agree (roomCheck count fields ∷ []) (noRoomFor count fields ∷ [])
 room-agrees count fields = (refl, lt-exactly _ _, λ p. tt)
 
 pub read-agrees : (n : ℕ) (s : List ℕ) (fields : List ℤ) → Agree (readChecks n s fields) (readLines n s fields)

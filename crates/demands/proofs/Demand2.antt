@@ -62,16 +62,16 @@ pub read-by-kind : (kind : Kind) (s : List ℕ) → ReadsExactly (AcceptsAs kind
 read-by-kind kind = kind-laws kind .exactly
 
 pub read-standard : (s : List ℕ) → ReadsExactly (AcceptsStandard s) (readStandard s)
-read-standard = standards.faithful .accepted-exactly
+read-standard = standards.faithful .reader .accepted-exactly
 
 pub read-pzf : (s : List ℕ) → ReadsExactly (AcceptsPzf s) (readPzf s)
-read-pzf = pzfs.faithful .accepted-exactly
+read-pzf = pzfs.faithful .reader .accepted-exactly
 
 pub read-gps : (s : List ℕ) → ReadsExactly (AcceptsGps s) (readGps s)
-read-gps = gpss.faithful .accepted-exactly
+read-gps = gpss.faithful .reader .accepted-exactly
 
 pub read-elv : (s : List ℕ) → ReadsExactly (AcceptsElv s) (readElv s)
-read-elv = elvs.faithful .accepted-exactly
+read-elv = elvs.faithful .reader .accepted-exactly
 
 pub write-standard : (t : ClockTime) (d : List ℕ) → WritesExactly (λ s. AcceptsStandard s t) d (writeStandard t d)
 write-standard t d = writes-exactly (settled standards.faithful t d)
@@ -87,7 +87,7 @@ write-elv t d = writes-exactly (settled elvs.faithful t d)
 
 -- ---- a DCF77 minute
 pub read-minute : (m : List ℕ) → ReadsExactly (AcceptsMinute m) (readMinute m)
-read-minute = minutes.faithful .accepted-exactly
+read-minute = minutes.faithful .reader .accepted-exactly
 
 pub write-minute : (a : MinuteTime) (d : List ℕ) → WritesExactly (λ m. AcceptsMinute m a) d (writeMinute a d)
 write-minute a d = writes-exactly (settled minutes.faithful a d)

@@ -169,16 +169,16 @@ module _
               agree = agrees words;
               order = order;
               above-0 = above-0;
-              exactly = λ s. handed-exactly (readText f s) (faithful .accepted-exactly s);
+              exactly = λ s. handed-exactly (readText f s) (faithful .reader .accepted-exactly s);
               valid = λ s r q.
                   let a = q .0 in
-                  let v = valid-read s a (faithful .accepted-exactly s a .1 (q .1 .0)) in
+                  let v = valid-read s a (faithful .reader .accepted-exactly s a .1 (q .1 .0)) in
                   rw (q .1 .1, h .same-clock a) (valid-exactly (clock a) .0 v);
               long = λ s. ap length (h .same-numbers (f .fields s)) ∙ h .numbers-long (f .fields s);
               settles = λ z d.
                   handed-settled
                   (numbers-settled write of numbers (settled faithful) (h .numbers-of)
-                  (λ s a q. of-numbers s a (faithful .accepted-exactly s a .1 q)) (h .refused-23) z d);
+                  (λ s a q. of-numbers s a (faithful .reader .accepted-exactly s a .1 q)) (h .refused-23) z d);
             }
 
 -- a format whose strings have no position, and no numbers of their own

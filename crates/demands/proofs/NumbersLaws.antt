@@ -103,7 +103,7 @@ unfolding writeMinuteFrom
 minute-settled z d =
     numbers-settled writeMinute minuteOf minuteNumbers (settled minutes.faithful) fields.numbers-minute
     (λ m a h.
-    let read = minutes.faithful .accepted-exactly m a .1 h in
+    let read = minutes.faithful .reader .accepted-exactly m a .1 h in
     fields.minute-numbers a (valid-fits (a .time) (minutes.valid-read m a read)) (marks-small m a read))
     (λ x k e. numbered-23 _ _ k e) z d
 

@@ -32,12 +32,12 @@ pub settled : {A : Type 0} {Accepts : List ℕ → A → Type 0} {read : List �
     → Faithful Accepts read write → (a : A) (d : List ℕ) → Settled (λ s. Accepts s a) d (write a d)
 settled f a d =
     record {
-      written = λ s h room. f .write-read s a (f .accepted-exactly s a .1 h) d room;
-      no-room = λ s h short. f .no-room s a (f .accepted-exactly s a .1 h) d short;
-      unread = λ none. f .unread a d (λ r. none (r .0) (f .accepted-exactly (r .0) a .0 (r .1)));
+      written = λ s h room. f .write-read s a (f .reader .accepted-exactly s a .1 h) d room;
+      no-room = λ s h short. f .no-room s a (f .reader .accepted-exactly s a .1 h) d short;
+      unread = λ none. f .unread a d (λ r. none (r .0) (f .reader .accepted-exactly (r .0) a .0 (r .1)));
       either =
-          ⊎-elim (λ r. inl (r .0, f .accepted-exactly (r .0) a .0 (r .1)))
-          (λ none. inr (λ s h. none (s, f .accepted-exactly s a .1 h))) (f .read-or-unread a);
+          ⊎-elim (λ r. inl (r .0, f .reader .accepted-exactly (r .0) a .0 (r .1)))
+          (λ none. inr (λ s h. none (s, f .reader .accepted-exactly s a .1 h))) (f .read-or-unread a);
     }
 
 -- what says the same of every string settles the same

@@ -18,6 +18,7 @@ use Rattle.time_string.specs.Kind.{Reading, time, timeAndPosition}
 use Rattle.time_string.specs.declared.Kind.{Kind}
 use Rattle.time_string.specs.declared.Kind.the-variants.{Standard, Pzf, Gps, Elv}
 
+-- the row of a kind
 pub record KindRules : Type 1 where
   -- "A separate question tells the kind from the bytes" (01, Meinberg and ELV strings): which bytes tell this one
   pub Tells : List ℕ → Type 0
@@ -34,7 +35,8 @@ pub record KindRules : Type 1 where
 abbrev pub Hands : {A : Type 0} → (A → Reading) → (A → Type 0) → Reading → Type 0
 Hands {A} say Accepts r = (a : A) × (Accepts a × (r ≡ say a))
 
--- "66 long is GPS; 32 long is standard if place 1 holds `D`, else PZF; 21 long is ELV" (01, Meinberg and ELV strings)
+-- the row of each kind; "66 long is GPS; 32 long is standard if place 1 holds `D`, else PZF; 21 long is ELV" (01,
+-- Meinberg and ELV strings)
 abbrev pub kindRules : Kind → KindRules
 kindRules Standard =
     record {

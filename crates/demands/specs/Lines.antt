@@ -90,12 +90,12 @@ abbrev pub numberCount : Kind → ℕ
 numberCount kind = kindRules kind .count
 
 -- 20: "lent memory: [..] a buffer too short to write to" (01, Refusal numbers): so many numbers are to be put
-abbrev pub roomFor : ℕ → List ℤ → Line
-roomFor count fields = line 20 (length fields < count)
+abbrev pub noRoomFor : ℕ → List ℤ → Line
+noRoomFor count fields = line 20 (length fields < count)
 
 -- the kind, the kind's reader, the room: 01 gives no order for these, so 20 comes last as in a writer
 abbrev pub readLines : ℕ → List ℕ → List ℤ → List Line
-readLines n s fields = unknownKind n ∷ linesAs (namedKind n) s ++ (roomFor (numberCount (namedKind n)) fields ∷ [])
+readLines n s fields = unknownKind n ∷ linesAs (namedKind n) s ++ (noRoomFor (numberCount (namedKind n)) fields ∷ [])
 
 -- the kind, and then the lines of a writer of these numbers: without a kind there is no format that could refuse
 abbrev pub writeLines : ℕ → List ℤ → List ℕ → List Line
@@ -103,7 +103,7 @@ writeLines n z buffer = unknownKind n ∷ writerLines (λ s. AcceptsNumbers n s 
 
 -- the minute's reader, the room
 abbrev pub readMinuteLines : List ℕ → List ℤ → List Line
-readMinuteLines m fields = minuteLines m ++ (roomFor minuteCount fields ∷ [])
+readMinuteLines m fields = minuteLines m ++ (noRoomFor minuteCount fields ∷ [])
 
 -- "Refused with 23 where the fields are no valid reading" (01, The reading): the first 14 numbers are those of none
 abbrev pub instantLinesOf : List ℤ → List Line

@@ -37,7 +37,7 @@ faithful =
 -- its first sentence by itself, with "FF is 00..07" (01, Meinberg and ELV strings)
 pub read-elv-exactly : (s : List ℕ) (t : ClockTime) → (readElv s ≡ accepted t)
     ↔ (AsDrawn elvPicture s × SaysElv s t × (twoDigitsAt s 18 ≤ 7) × ReadingRules t)
-read-elv-exactly = faithful .accepted-exactly
+read-elv-exactly = faithful .reader .accepted-exactly
 
 -- "ELV, 21 bytes." (01, Meinberg and ELV strings)
 pub long : length elvPicture ≡ 21

@@ -87,7 +87,7 @@ lineWith t flags =
 unfoldable pub elvText : ClockTime → List ℕ
 elvText t = lineWith t (flagSum (t .«summer_time») (t .«dst_change_announced») (t .unsynchronised))
 
--- the clock times that an ELV string can represent, the rest of a reading being as it is
+-- the clock times that an ELV string can represent, if they are readings (`isRepresentable` asks that)
 unfoldable pub elvRepresentable : ClockTime → Bool
 elvRepresentable t =
     eqℤ (elvOffset (t .«summer_time»)) (t .«utc_offset»)

@@ -40,7 +40,7 @@ nothing-yet Dropped h = absurd (true≢false (sym h))
 pub loud-some : (a : Event) → isNothing a ≡ false → a ≡ Nothing → ⊥
 loud-some a loud e = true≢false (sym (ap isNothing e) ∙ loud)
 
--- what holds of a feed's outcome, by whether the first byte ends a string
+-- what holds of a feed's result, by whether the first byte ends a string
 pub feed-cases : (P : FeedResult → Type 0) (f : Framer) (b : ℕ) (s : List ℕ)
     → (stepOf f b .event ≡ Nothing → P (afterTaking 1 (feedOf (stepOf f b .framer) s)))
     → (isNothing (stepOf f b .event) ≡ false

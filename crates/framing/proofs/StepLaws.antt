@@ -69,7 +69,7 @@ inside-not-outside count few h = go (ltb count 66) (simp (le-ltb 66 count few) a
     go true h = let z : _≡_ {A = ℕ} 0 1 = cc in omega arith
     go false h = let z : _≡_ {A = ℕ} 0 1 = cc in omega arith
 
--- what holds of a step's outcome, by the byte and the effective mode
+-- what holds of a step's result, by the byte and the effective mode
 pub step-cases : (P : StepResult → Type 0) (f : Framer) (b : ℕ) → (b ≡ 2 → P (stx f))
     → (b ≡ 3 → (m : Mode) → effectiveMode (f .count) (f .mode) ≡ m → P (etxAt m f))
     → (eqb b 2 || eqb b 3 ≡ false → (m : Mode) → effectiveMode (f .count) (f .mode) ≡ m → P (plainAt m f b))

@@ -19,8 +19,8 @@ framerOf bytes count mode = record { bytes = bytes; count = count; mode = mode }
 abbrev pub start : Framer
 start = framerOf (replicate 66 0) 0 Outside
 
--- "bytes are kept up to 66" (01, The serial feed): inside a string a byte is kept if there is room, else it finds the
--- string overlong
+-- "bytes are kept up to 66" (01, The serial feed): the mode by whether there is room for a byte; inside a string
+-- without room it is overlong, and the other modes stay
 abbrev pub whenInside : Mode → Bool → Mode
 whenInside Outside room = Outside
 whenInside Inside true = Inside

@@ -35,7 +35,7 @@ fn skip(s: &[u8], last: u8) -> usize
     i
 }
 
-// True only where eight bytes are neither STX nor ETX: some bit of 2 to 6 is set in each, so that adding 124 to those
+// True only if eight bytes are neither STX nor ETX: some bit of 2 to 6 is set in each, so that adding 124 to those
 // bits sets bit 7.
 fn are_plain(s: &[u8], at: usize) -> bool
     requires { ⌜ at + 8 ≤ length (now s) ⌝ }

@@ -67,7 +67,7 @@ pub ruleset numbers-written =
     (year-written, month-written, day-written, weekday-written, hour-written, minute-written, second-written)
 
 -- ---- deciding
--- What a writer needs to know of its format to decide from a value: which of them are
+-- What a writer needs to know of its format to decide from a value: which values are
 -- representable.
 pub record Decides
     {A : Type 0} (f : Format A) (text : A → List ℕ) (representable : A → Bool) : Type 0 where

@@ -15,7 +15,7 @@ use Rattle.decimal.specs.Decimal.{digits}
 use Rattle.layout.specs.Layout.{found}
 
 -- A format: its layout, a fault of its flags given with 4, its own checks before 5, the dates that it can give, a fault
--- given with 6, and what its fields say.
+-- given with 6, what its fields say, and the clock time in that.
 pub record Format (A : Type 0) : Type 0 where
   pub layout : List ℕ
   pub flagFault : List ℕ → Bool

@@ -43,7 +43,7 @@ fn error_at(p: u32) -> u8
     4
 }
 
-// The error number of byte `b` at place `p` of a layout, 0 where it may stand there.
+// The error number of byte `b` at place `p` of a layout, 0 if it may stand there.
 fn offence_at(p: u32, b: u8) -> u8
     ensures { λ r. ⌜ r ≡ offence p b ⌝ }
 {
@@ -53,7 +53,7 @@ fn offence_at(p: u32, b: u8) -> u8
     error_at(p)
 }
 
-// The first place with the error number `k`, the length where there is none.
+// The first place with the error number `k`, the length if there is none.
 fn first_offence(k: u8, layout: &[u32], s: &[u8]) -> usize
     requires { ⌜ length (now layout) ≡ length (now s) ⌝ }
     ensures { λ r. ⌜ r ≡ first k (now (layout .entry)) (now (s .entry)) ⌝ }
@@ -116,7 +116,7 @@ pub fn check_without_weekday(t: ClockTime) -> ReadAnswer
     ReadAnswer::Read(calendar::date::with_weekday(t))
 }
 
-// The letter where `on`, else a blank.
+// The letter if `on`, else a blank.
 pub fn letter_if(on: bool, letter: u8) -> u8
     ensures { λ r. ⌜ r ≡ cond on letter 32 ⌝ }
 {

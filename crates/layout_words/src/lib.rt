@@ -136,7 +136,7 @@ pub fn flags_fit(
     nonzero(from_blanks) & nonzero(from_letters) == 0
 }
 
-// The numbers of three pairs of digits from a place on, each with a byte after it; 0 where there are no eight bytes.
+// The numbers of three pairs of digits from a place on, each with a byte after it; 0 if there are no eight bytes.
 pub fn numbers_at(s: &[u8], at: usize) -> ThreeNumbers
     ensures { λ r. ⌜ r ≡ numbersAt at (now (s .entry)) ⌝ }
 {

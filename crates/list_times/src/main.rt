@@ -26,7 +26,7 @@ struct Part {
     is_written: bool,
 }
 
-// Writes text; says so and answers false where that fails.
+// Writes text; says so and answers false if that fails.
 fn write(text: &[u8]) -> bool {
     let is_written = io::write_all(STDOUT_FILENO, text);
     if !is_written {
@@ -103,7 +103,7 @@ fn write_lines(state: State, s: &[u8], out: &mut [u8; 65536]) -> State
     }
 }
 
-// Reads once, and answers how many bytes came: none at the input's end, and where the read fails, which it says.
+// Reads once, and answers how many bytes came: none at the input's end, and if the read fails, which it says.
 fn read_some(buf: &mut [u8; 65536]) -> usize
     ensures { λ r. ⌜ Counts r (now (buf .exit)) ⌝ }
 {

@@ -59,7 +59,7 @@ entryItem (entries.Refused e) = string (refused (errorNumber e))
 entryItem entries.Dropped = overlong
 
 -- ---- lines
--- "refused 6", "A dropped string writes `dropped`", "each line ended by LF" (01, Examples)
+-- "refused 6", "A dropped string writes `dropped`", "each line ended by LF" (01, Examples (P: proved))
 unfoldable pub itemLine : Item → List ℕ
 itemLine nothing = []
 itemLine (string (accepted t)) = timeLine t
@@ -77,8 +77,8 @@ pub record Shows (r : Line) (i : Item) : Type 0 where
 abbrev pub oneMore : ℕ → ℕ
 oneMore n = (n + 1) % 2 ^ 64
 
--- "frames counts complete strings" (01, Examples), `refused` those among them that were refused, and `dropped` the
--- strings that were dropped
+-- "frames counts complete strings" (01, Examples (P: proved)), `refused` those among them that were refused, and
+-- `dropped` the strings that were dropped
 unfoldable pub counted : Totals → Item → Totals
 counted t nothing = t
 counted t (string (accepted _)) = record { frames = oneMore (t .frames); refused = t .refused; dropped = t .dropped }

@@ -66,7 +66,7 @@ taking l s buffer n =
 unfoldable pub listOf : Listing → List ℕ → List ℕ → ListedInto
 listOf l s buffer = taking l s buffer (takenOf l s (length buffer))
 
--- "The program, fed [..] writes, each line ended by LF: [..] time zone flags" (01, Examples), a line for each string,
--- and the totals
+-- "The program, fed [..] writes, each line ended by LF: [..] time zone flags" (01, Examples (P: proved)), a line for
+-- each string, and the totals
 unfoldable pub listingOf : List ℕ → List ℕ
 listingOf s = ascii "time zone flags\n" ++ textOf start s ++ totalsLine (after start s .totals)

@@ -100,7 +100,7 @@ fn refused_line(n: u8) -> Line
     Line { text, length: 11 }
 }
 
-// The line of an entry, empty where there is nothing to say.
+// The line of an entry, empty if there is nothing to say.
 pub(crate) fn entry_line(entry: Entry) -> Line
     ensures { λ r. ⌜ Shows r (entryItem entry) ⌝ }
 {

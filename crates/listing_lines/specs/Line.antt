@@ -15,7 +15,7 @@ use Rattle.decimal.specs.Decimal.{digits}
 abbrev pub letterOrDash : Bool → Char → ℕ
 letterOrDash on c = cond on (code c) (code "-")
 
--- "Flags in order `#*S!ARL`, a dash for none, L for second 60." (01, Examples)
+-- "Flags in order `#*S!ARL`, a dash for none, L for second 60." (01, Examples (P: proved))
 unfoldable pub flagsText : ClockTime → List ℕ
 flagsText t =
     letterOrDash (t .unsynchronised) "#"
@@ -27,8 +27,8 @@ flagsText t =
     ∷ letterOrDash (eqb (t .second) 60) "L"
     ∷ []
 
--- "2006-11-08 14:39:39 +01:00 -------", "each line ended by LF" (01, Examples), with the bytes of the offset and of the
--- flags
+-- "2006-11-08 14:39:39 +01:00 -------", "each line ended by LF" (01, Examples (P: proved)), with the bytes of the
+-- offset and of the flags
 unfoldable pub lineWith : ClockTime → List ℕ → List ℕ → List ℕ
 lineWith t offset flags =
     digits 4 (t .year) ++ ascii "-" ++ digits 2 (t .month) ++ ascii "-" ++ digits 2 (t .day)

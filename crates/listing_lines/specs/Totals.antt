@@ -7,7 +7,7 @@ use Rattle.clock_time.specs.Lists.{ascii}
 use Rattle.listing_lines.specs.Numeral.{numeral}
 use Rattle.listing_lines.specs.declared.Totals.{Totals}
 
--- "frames 2 refused 1 dropped 0", "each line ended by LF" (01, Examples)
+-- "frames 2 refused 1 dropped 0", "each line ended by LF" (01, Examples (P: proved))
 unfoldable pub totalsLine : Totals → List ℕ
 totalsLine t =
     ascii "frames " ++ numeral (t .frames)

@@ -27,8 +27,8 @@ use Rattle.meinberg_gps.specs.declared.GpsTime.{GpsTime}
 use Rattle.meinberg_gps.proofs.OffsetLaws.{OffsetRead, offset-read, offset-in-range}
 use Rattle.meinberg_gps.proofs.FieldsLaws.{sameGps-refl, sameGps-true}
 
-abbrev pub gpsCarries : GpsTime → Bool
-gpsCarries g = positionRepresentable (g .position)
+abbrev pub gpsRepresentable : GpsTime → Bool
+gpsRepresentable g = positionRepresentable (g .position)
 
 text-fits : (g : GpsTime) → FitsLayout gpsLayout (gpsText g)
 unfolding
@@ -49,11 +49,11 @@ module _ (g : GpsTime) (h : isRepresentable (g .time) ≡ true) where
   unfolding leapMismatch gpsText lineWith pzfText offsetText ascii digits
   leap-part = simp (numbers-written, letter-read, beq-refl)
 
-position-part : (g : GpsTime) → gpsCarries g ≡ true → PositionRead (g .position) (gpsText g)
+position-part : (g : GpsTime) → gpsRepresentable g ≡ true → PositionRead (g .position) (gpsText g)
 unfolding gpsText lineWith pzfText offsetText positionText angleBytes aligned padded ascii digits
 position-part g k = position-read (g .position) k (gpsText g) refl
 
-pub decides : Decides gps gpsText gpsCarries
+pub decides : Decides gps gpsText gpsRepresentable
 unfolding gps gpsFields clockOf
 decides =
     record {
@@ -72,4 +72,4 @@ pub writes : (g : GpsTime) (buffer : List ℕ) {u v : Bool} {bytes : List ℕ} {
     → o ≡ writing (u && v) bytes buffer → u ≡ isRepresentable (g .time) → v ≡ positionRepresentable (g .position)
     → bytes ≡ gpsText g → o ≡ writeGps g buffer
 unfolding writeGps writtenGps gps
-writes = text.writes writtenGps gpsCarries decides sameGps-refl sameGps-true
+writes = text.writes writtenGps gpsRepresentable decides sameGps-refl sameGps-true

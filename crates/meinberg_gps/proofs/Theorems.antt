@@ -22,7 +22,7 @@ use Rattle.meinberg_gps.specs.Lines.{gpsLines}
 use Rattle.meinberg_gps.specs.declared.GpsTime.{GpsTime}
 use Rattle.meinberg_gps.proofs.FieldsLaws.{text-fields, sameGps-refl, sameGps-true}
 use Rattle.meinberg_gps.proofs.SaysLaws.{in-words}
-use Rattle.meinberg_gps.proofs.GpsLaws.{gpsCarries, decides}
+use Rattle.meinberg_gps.proofs.GpsLaws.{gpsRepresentable, decides}
 
 -- demand 2: acceptance, the fields read, and what is written
 pub faithful : Faithful AcceptsGps readGps writeGps
@@ -32,7 +32,7 @@ faithful = text.faithful writtenGps AcceptsGps (text.exactly in-words) text-fiel
 -- its first sentence by itself
 pub read-gps-exactly : (s : List ℕ) (g : GpsTime)
     → (readGps s ≡ accepted g) ↔ (AsDrawn gpsPicture s × SaysGps s g × RulesGps s × ReadingRules (g .time))
-read-gps-exactly = faithful .accepted-exactly
+read-gps-exactly = faithful .reader .accepted-exactly
 
 -- and refused with a number exactly if its line of the table in words holds and no earlier one does: "Each number is
 -- given when its line holds and no earlier one does, and never otherwise." (01, Refusal numbers)
@@ -52,11 +52,11 @@ long = refl
 -- what is read is a valid reading
 pub valid-read : (s : List ℕ) (g : GpsTime) → readGps s ≡ accepted g → isReading (g .time) ≡ true
 unfolding readGps writtenGps gps
-valid-read = valid-answer writtenGps gpsCarries decides
+valid-read = valid-answer writtenGps gpsRepresentable decides
 
 -- read exactly what is written: as g, the text of g and no other string, if g is a valid reading at a position that it
 -- can represent
 pub read-is-written : (s : List ℕ) (g : GpsTime) → (readGps s ≡ accepted g)
     ↔ (((isRepresentable (g .time) && positionRepresentable (g .position)) ≡ true) × (gpsText g ≡ s))
 unfolding readGps writtenGps gps
-read-is-written = read-written writtenGps gpsCarries decides text-fields
+read-is-written = read-written writtenGps gpsRepresentable decides text-fields

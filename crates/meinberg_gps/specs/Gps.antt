@@ -39,7 +39,7 @@ gpsLayout =
     ++ ascii " " ++ places 4 free ++ ascii "m\u{3}"
 
 -- ---- the offset
--- "sign at 24; offset digits at 25, 26, 28, 29" (01, Meinberg and ELV strings), in minutes
+-- "offset digits at 25, 26, 28, 29 with `:` at 27" (01, Meinberg and ELV strings), in minutes
 abbrev pub offsetMagnitude : List ℕ → ℕ
 offsetMagnitude s = 60 * number 2 25 s + number 2 28 s
 

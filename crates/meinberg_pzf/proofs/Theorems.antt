@@ -35,7 +35,7 @@ faithful =
 -- its first sentence by itself
 pub read-pzf-exactly : (s : List ℕ) (t : ClockTime)
     → (readPzf s ≡ accepted t) ↔ (AsDrawn pzfPicture s × SaysPzf s t × ReadingRules t)
-read-pzf-exactly = faithful .accepted-exactly
+read-pzf-exactly = faithful .reader .accepted-exactly
 
 -- "PZF, 32 bytes." (01, Meinberg and ELV strings)
 pub long : length pzfPicture ≡ 32

@@ -57,7 +57,7 @@ lineWith t utc u v x y z a =
     ++ ascii "; " ++ digits 2 (t .hour) ++ ascii ":" ++ digits 2 (t .minute) ++ ascii ":" ++ digits 2 (t .second)
     ++ ascii "; " ++ (utc ∷ u ∷ v ∷ x ∷ y ∷ z ∷ a ∷ ascii "\u{3}")
 
--- the only letters that could be read as a clock time: the offset decides t, and x is the summer flag
+-- the only string that could be read as a clock time: the offset decides t, and x is the summer flag
 unfoldable pub pzfText : ClockTime → List ℕ
 pzfText t =
     lineWith t (letter (eqℤ (t .«utc_offset») (pos 0)) "U")
@@ -65,7 +65,7 @@ pzfText t =
     (letter (t .«summer_time») "S") (letter (t .«dst_change_announced») "!")
     (letter (t .«leap_second_announced») "A") (letter (t .«alternate_antenna») "R")
 
--- the clock times that these flags can represent, the rest of a reading being as it is
+-- the clock times that these flags can represent, if they are readings (`isRepresentable` asks that)
 unfoldable pub pzfRepresentable : ClockTime → Bool
 pzfRepresentable t = eqℤ (pzfOffset (eqℤ (t .«utc_offset») (pos 0)) (t .«summer_time»)) (t .«utc_offset»)
 

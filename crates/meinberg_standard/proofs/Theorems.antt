@@ -36,7 +36,7 @@ faithful =
 -- its first sentence by itself
 pub read-standard-exactly : (s : List ℕ) (t : ClockTime)
     → (readStandard s ≡ accepted t) ↔ (AsDrawn standardPicture s × SaysStandard s t × ReadingRules t)
-read-standard-exactly = faithful .accepted-exactly
+read-standard-exactly = faithful .reader .accepted-exactly
 
 -- "Standard, 32 bytes." (01, Meinberg and ELV strings)
 pub long : length standardPicture ≡ 32

@@ -74,7 +74,7 @@ standardText t =
     (zoneLetter (t .«utc_offset») (t .«summer_time»))
     (announcedLetter (t .«dst_change_announced») (t .«leap_second_announced»))
 
--- the clock times that these letters can represent, the rest of a reading being as it is
+-- the clock times that these letters can represent, if they are readings (`isRepresentable` asks that)
 unfoldable pub standardRepresentable : ClockTime → Bool
 standardRepresentable t =
     eqℤ (standardZone (zoneLetter (t .«utc_offset») (t .«summer_time»))) (t .«utc_offset»)

@@ -10,8 +10,8 @@ use Rattle.recording.specs.SheetNumber.{SheetNumber, RightFor}
 -- `marks` and `outcomes` were lent, `place` and `mark` named; `marks′` and `outcomes′` are left, `count` is returned
 pub record Corrected
     (marks outcomes : List ℕ) (place mark : ℕ) (marks′ outcomes′ : List ℕ) (count : ℕ) : Type 0 where
-  -- "The tape has the new mark at that place and its old mark at every other."; "The corrected tape is the old one with
-  -- the new mark at the place named." (01, Tape and sheet)
+  -- "The tape has the new mark at that place and its old mark at every other." (demand 3); "The corrected tape is the
+  -- old one with the new mark at the place named." (01, Tape and sheet)
   pub marks-long : length marks′ ≡ length marks
   pub mark-here : getD marks′ place 0 ≡ mark
   pub mark-elsewhere : (i : ℕ) → (i ≡ place → ⊥) → getD marks′ i 0 ≡ getD marks i 0

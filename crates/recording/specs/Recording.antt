@@ -33,6 +33,7 @@ abbrev pub unfit : ℕ → ℕ → Bool
 unfit marks outcomes = not (eqb marks outcomes) || ltb 100000 marks
 
 -- ---- the number at every place
+-- the function's answer: filled, or a refusal with the error's number
 abbrev pub fillAnswer : FillAnswer → Answer (Unit {0})
 fillAnswer FillAnswer.Filled = accepted tt
 fillAnswer (FillAnswer.Refused e) = refused (errorNumber e)

@@ -4,7 +4,7 @@ ghost use Prim.Native.Nat.{_+_, _<_, _≤_};
 ghost use lib.ListN.{length, drop};
 ghost use Rattle.recording.specs.Gaps.{gapBefore, firstGap, gapAfter, gapOf};
 
-// The place of a gap, where there is one.
+// The place of a gap, if there is one.
 pub(crate) enum Gap {
     At(usize),
     Nothing,
@@ -69,7 +69,7 @@ pub(crate) fn gap_after(marks: &[u8], place: usize) -> Gap
     Gap::Nothing
 }
 
-// The nearest gap up to a place: the place itself where it is one, else the nearest before it.
+// The nearest gap up to a place: the place itself if it is one, else the nearest before it.
 pub(crate) fn gap_up_to(marks: &[u8], place: usize, before: Gap) -> Gap
     requires { ⌜ (place < length (now marks)) × (gapOf before ≡ gapBefore (now marks) place) ⌝ }
     ensures { λ r. ⌜ gapOf r ≡ gapBefore (now (marks .entry)) (place + 1) ⌝ }

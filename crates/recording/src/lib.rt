@@ -45,7 +45,7 @@ pub fn outcome_at(marks: &[u8], place: usize) -> OutcomeAnswer
     OutcomeAnswer::Number(numbers::number_at(marks, place))
 }
 
-// True where so many outcomes cannot be those of so many marks.
+// Whether so many outcomes cannot be those of so many marks.
 fn is_unfit(marks: usize, outcomes: usize) -> bool
     ensures { λ r. ⌜ r ≡ unfit marks outcomes ⌝ }
 {

@@ -42,7 +42,7 @@ pub(crate) fn number_given_gap(marks: &[u8], place: usize, last: Gap) -> u32
     number_at_gap(marks, place, last)
 }
 
-// The number at a place. The gap before it is looked for only where the place is a gap.
+// The number at a place. The gap before it is looked for only if the place is a gap.
 pub(crate) fn number_at(marks: &[u8], place: usize) -> u32
     requires { ⌜ place < length (now marks) ⌝ }
     ensures { λ r. ⌜ r ≡ rule (now (marks .entry)) place ⌝ }

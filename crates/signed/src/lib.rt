@@ -5,7 +5,7 @@ ghost use Rattle.signed.specs.Signed.{signed, signHolds, signByte};
 
 pub mod offset;
 
-// The number of a magnitude, below zero where `negative`.
+// The number of a magnitude, below zero if `negative`.
 pub fn with_sign(negative: bool, magnitude: u32) -> i64
     ensures { λ r. ⌜ r ≡ signed negative magnitude ⌝ }
 {

@@ -23,7 +23,7 @@ pub enum KindAnswer {
     Refused(Error),
 }
 
-// The clock time that was read, with a position where the string has one, or the error.
+// The clock time that was read, with a position if the string has one, or the error.
 pub enum TimeAnswer {
     Read(ClockTime),
     ReadWithPosition(GpsTime),

@@ -180,13 +180,13 @@ def degrees(s, at, whole, letters, limit):
 def read_gps(s, first_year=FIRST_YEAR):
     check_layout(GPS, s)
     sign, minutes = chr(s[24]), number(s, 28, 2)
-    size = 60 * number(s, 25, 2) + minutes
-    if sign not in "+-" or minutes > 59 or size > LARGEST_OFFSET or (sign == "-" and size == 0):
+    magnitude = 60 * number(s, 25, 2) + minutes
+    if sign not in "+-" or minutes > 59 or magnitude > LARGEST_OFFSET or (sign == "-" and magnitude == 0):
         raise Refused(8)
     latitude = degrees(s, 41, 2, "NS", 900000)
     longitude = degrees(s, 50, 3, "EW", 1800000)
     height = whole_part(s[60:64])
-    r = pzf_clock(s, first_year, -size if sign == "-" else size, s[32:38].decode().replace(" ", ""))
+    r = pzf_clock(s, first_year, -magnitude if sign == "-" else magnitude, s[32:38].decode().replace(" ", ""))
     check_clock(r, mismatch=(s[38:39] == b"L") != (r["second"] == 60))
     return dict(r, latitude=latitude, longitude=longitude, height=height)
 
@@ -253,13 +253,13 @@ def text_pzf(r):
 
 
 def text_offset(offset):
-    size = abs(offset)
-    return f"{'-' if offset < 0 else '+'}{size // 60 % 100:02}:{size % 60:02}"
+    magnitude = abs(offset)
+    return f"{'-' if offset < 0 else '+'}{magnitude // 60 % 100:02}:{magnitude % 60:02}"
 
 
 def text_degrees(value, whole, hemispheres):
-    size = abs(value)
-    return f"{size // 10000:{whole}}.{size % 10000:04}{hemispheres[value < 0]}"
+    magnitude = abs(value)
+    return f"{magnitude // 10000:{whole}}.{magnitude % 10000:04}{hemispheres[value < 0]}"
 
 
 def text_gps(r):

@@ -9,7 +9,7 @@
 #include "reference.h"
 
 /* The functions under their two names. */
-struct face {
+struct api {
     const char *name;
     uint8_t (*read)(uint8_t, const uint8_t *, size_t, int32_t *, size_t);
     uint8_t (*read_minute)(const uint8_t *, size_t, int32_t *, size_t);
@@ -42,7 +42,7 @@ static uint8_t correct_mark(uint8_t *marks, size_t n, uint32_t *outcomes, size_t
     return reference_correct_mark(REFERENCE_FIRST_YEAR, marks, n, outcomes, count, place, mark, changed);
 }
 
-static const struct face faces[] = {
+static const struct api apis[] = {
     { "library", radio_clock_read, radio_clock_read_minute, radio_clock_unix_time, radio_clock_fill_outcomes,
       radio_clock_correct_mark },
     { "reference", read_string, read_minute, reference_unix_time, fill_outcomes, correct_mark },
@@ -50,10 +50,10 @@ static const struct face faces[] = {
 
 static bool passed;
 
-static void check(const struct face *face, bool holds, const char *example)
+static void check(const struct api *api, bool holds, const char *example)
 {
     if (!holds) {
-        printf("example failed on the %s: %s\n", face->name, example);
+        printf("example failed on the %s: %s\n", api->name, example);
         passed = false;
     }
 }
@@ -66,7 +66,7 @@ static void make_p3(uint8_t *marks)
         marks[i] = (uint8_t)(bits[i] - '0');
 }
 
-static void run_strings(const struct face *face)
+static void run_strings(const struct api *api)
 {
     static const struct {
         uint8_t kind;
@@ -97,67 +97,67 @@ static void run_strings(const struct face *face)
     int32_t fields[17];
     for (size_t i = 0; i < sizeof examples / sizeof examples[0]; i++) {
         const uint8_t *s = (const uint8_t *)examples[i].string;
-        uint8_t answer = face->read(examples[i].kind, s, strlen(examples[i].string), fields, 17);
-        check(face, answer == examples[i].answer, examples[i].what);
+        uint8_t answer = api->read(examples[i].kind, s, strlen(examples[i].string), fields, 17);
+        check(api, answer == examples[i].answer, examples[i].what);
         if (i == 0)
-            check(face, fields[0] == 1993 && fields[3] == 5 && fields[14] == 495736 && fields[15] == 110280,
+            check(api, fields[0] == 1993 && fields[3] == 5 && fields[14] == 495736 && fields[15] == 110280,
                   "P1's fields");
     }
 }
 
-static void run_instants(const struct face *face)
+static void run_instants(const struct api *api)
 {
     static const int32_t p2[14] = { 2006, 11, 8, 3, 14, 39, 39, 0 }, first[14] = { 1970, 1, 1, 4, 0, 0, 0, 60 };
     int64_t time = 0;
-    check(face, face->unix_time(p2, 14, &time) == 0 && time == 1162996779, "P2");
-    check(face, face->unix_time(first, 14, &time) == 0 && time == -3600, "1 January 1970 at +60");
+    check(api, api->unix_time(p2, 14, &time) == 0 && time == 1162996779, "P2");
+    check(api, api->unix_time(first, 14, &time) == 0 && time == -3600, "1 January 1970 at +60");
 }
 
-static void run_marks(const struct face *face)
+static void run_marks(const struct api *api)
 {
     uint8_t p3[61], tape[62], copy[62];
     uint32_t sheet[62], mended[62];
     int32_t fields[16];
     size_t changed = 99;
     make_p3(p3);
-    check(face,
-          face->read_minute(p3, 59, fields, 16) == 0 && fields[0] == 2006 && fields[1] == 11 && fields[2] == 8 &&
+    check(api,
+          api->read_minute(p3, 59, fields, 16) == 0 && fields[0] == 2006 && fields[1] == 11 && fields[2] == 8 &&
               fields[3] == 3 && fields[4] == 14 && fields[5] == 39 && fields[7] == 60,
           "P3");
     tape[0] = 2;
     memcpy(tape + 1, p3, 59);
     tape[60] = 2;
-    check(face, face->fill_outcomes(tape, 61, sheet, 61) == 0 && sheet[0] == 10 && sheet[60] == 620265028, "P4");
+    check(api, api->fill_outcomes(tape, 61, sheet, 61) == 0 && sheet[0] == 10 && sheet[60] == 620265028, "P4");
     for (size_t i = 1; i < 60; i++)
-        check(face, sheet[i] == 0, "P4, the rest");
+        check(api, sheet[i] == 0, "P4, the rest");
     memcpy(copy, tape, 61);
     memcpy(mended, sheet, sizeof sheet);
-    check(face, face->correct_mark(copy, 61, mended, 61, 30, 2, &changed) == 0 && changed == 2, "P5's count");
-    check(face, mended[30] == 11 && mended[60] == 11, "P5");
+    check(api, api->correct_mark(copy, 61, mended, 61, 30, 2, &changed) == 0 && changed == 2, "P5's count");
+    check(api, mended[30] == 11 && mended[60] == 11, "P5");
     memcpy(copy, tape, 61);
     memcpy(mended, sheet, sizeof sheet);
-    check(face, face->correct_mark(copy, 61, mended, 61, 60, 0, &changed) == 0 && changed == 1, "P6's count");
-    check(face, mended[60] == 0 && copy[60] == 0, "P6");
+    check(api, api->correct_mark(copy, 61, mended, 61, 60, 0, &changed) == 0 && changed == 1, "P6's count");
+    check(api, mended[60] == 0 && copy[60] == 0, "P6");
     memcpy(copy, tape, 61);
     memcpy(mended, sheet, sizeof sheet);
-    check(face, face->correct_mark(copy, 61, mended, 61, 30, tape[30], &changed) == 0 && changed == 0, "P7");
-    check(face, face->correct_mark(copy, 61, mended, 61, 61, 0, &changed) == 21, "P8");
+    check(api, api->correct_mark(copy, 61, mended, 61, 30, tape[30], &changed) == 0 && changed == 0, "P7");
+    check(api, api->correct_mark(copy, 61, mended, 61, 61, 0, &changed) == 21, "P8");
     tape[1] = 2;
-    check(face, face->fill_outcomes(tape, 2, sheet, 2) == 0 && sheet[0] == 10 && sheet[1] == 11, "P9");
+    check(api, api->fill_outcomes(tape, 2, sheet, 2) == 0 && sheet[0] == 10 && sheet[1] == 11, "P9");
     p3[28] = 1;
-    check(face, face->read_minute(p3, 59, fields, 16) == 15, "P10");
+    check(api, api->read_minute(p3, 59, fields, 16) == 15, "P10");
     p3[28] = 0;
     p3[59] = 0;
-    check(face, face->read_minute(p3, 60, fields, 16) == 19, "P11");
+    check(api, api->read_minute(p3, 60, fields, 16) == 19, "P11");
 }
 
 bool run_examples(void)
 {
     passed = true;
-    for (size_t i = 0; i < sizeof faces / sizeof faces[0]; i++) {
-        run_strings(&faces[i]);
-        run_instants(&faces[i]);
-        run_marks(&faces[i]);
+    for (size_t i = 0; i < sizeof apis / sizeof apis[0]; i++) {
+        run_strings(&apis[i]);
+        run_instants(&apis[i]);
+        run_marks(&apis[i]);
     }
     return passed;
 }

@@ -106,7 +106,7 @@ static bool is_time_of_day(int32_t hour, int32_t minute, int32_t second, int32_t
 
 /* "year 1970 to 2069, a date, a time of day, weekday 1..7, offset at most 840 minutes either way", and flags that are
  * flags. */
-static bool is_valid(const int32_t *r)
+static bool is_reading(const int32_t *r)
 {
     if (r[YEAR] < 1970 || r[YEAR] > 2069 || !is_date(r[YEAR], r[MONTH], r[DAY]))
         return false;
@@ -125,7 +125,7 @@ static bool is_valid(const int32_t *r)
 uint8_t reference_unix_time(const int32_t *fields, size_t count, int64_t *time)
 {
     const int32_t *r = fields;
-    if (count < TIME_FIELDS || !is_valid(r))
+    if (count < TIME_FIELDS || !is_reading(r))
         return 23;
     int64_t days = days_since_1970(r[YEAR], r[MONTH], r[DAY]);
     *time = 86400 * days + 3600 * r[HOUR] + 60 * r[MINUTE] + r[SECOND] - 60 * r[OFFSET];
@@ -326,10 +326,10 @@ static bool read_degrees(const uint8_t *s, size_t places, uint8_t above, uint8_t
             return false;
     if (letter != above && letter != below)
         return false;
-    int32_t size = 10000 * whole + number(fraction, 4);
-    if (size > most || (size == 0 && letter == below))
+    int32_t magnitude = 10000 * whole + number(fraction, 4);
+    if (magnitude > most || (magnitude == 0 && letter == below))
         return false;
-    *degrees = letter == below ? -size : size;
+    *degrees = letter == below ? -magnitude : magnitude;
     return true;
 }
 
@@ -347,10 +347,10 @@ static struct refusal read_gps(int32_t first_year, const uint8_t *s, size_t n, i
     /* 8: "offset sign or size". "Offset at most 14:00 either way, its minutes at most 59; `-00:00` is refused with
      * 8." */
     uint8_t sign = s[24];
-    int32_t minutes = number(s + 28, 2), size = 60 * number(s + 25, 2) + minutes;
-    if (!is_one_of(sign, "+-") || size > 14 * 60 || minutes > 59 || (sign == '-' && size == 0))
+    int32_t minutes = number(s + 28, 2), magnitude = 60 * number(s + 25, 2) + minutes;
+    if (!is_one_of(sign, "+-") || magnitude > 14 * 60 || minutes > 59 || (sign == '-' && magnitude == 0))
         return refused(8);
-    r[OFFSET] = sign == '-' ? -size : size;
+    r[OFFSET] = sign == '-' ? -magnitude : magnitude;
 
     /* "All faults in 41..63 but the fixed bytes at 43, 49, 53 and 59 are 9." "N or S at 48, E or W at 58" */
     if (!read_degrees(s + 41, 2, 'N', 'S', 900000, &r[LATITUDE]))

@@ -1,4 +1,6 @@
 -- Laws of the definitions, and the main results.
+pub mod DateLaws
+pub mod DaysLaws
 pub mod SignedLaws
 pub mod WeekdayLaws
 pub mod ValidLaws

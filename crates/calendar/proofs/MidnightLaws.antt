@@ -4,10 +4,9 @@ use native.Mathlib.Nat.{mul-assoc, mul-zero}
 use native.Mathlib.Omega.{arith}
 use mathlib.Core.Path.{_≡_, refl, sym, ap, ap₂, _∙_}
 use mathlib.Core.Bool.{true}
-use lib.IntN.{ℤ, pos, negsuc, negℤ, _+ℤ_, _-ℤ_, _*ℤ_, zero-*ℤ, sucℤ-*ℤ, +ℤ-assoc, +ℤ-comm}
-use lib.IntN.{+ℤ-negℤ-cancel, -ℤ-+ℤ-cancel}
+use lib.IntN.{ℤ, pos, negsuc, negℤ, _+ℤ_, _-ℤ_, _*ℤ_, zero-*ℤ, sucℤ-*ℤ, +ℤ-assoc, +ℤ-comm, +ℤ-negℤ-cancel, -ℤ-+ℤ-cancel}
 use Rattle.clock_time.specs.declared.ClockTime.{ClockTime}
-use Rattle.gregorian.specs.Date.{daysSinceEpoch}
+use Rattle.calendar.specs.Date.{daysSinceEpoch}
 use Rattle.calendar.specs.UnixTime.{isReading, instantOf}
 use Rattle.calendar.proofs.RulesLaws.{time-exactly}
 use Rattle.calendar.proofs.ValidLaws.{valid}

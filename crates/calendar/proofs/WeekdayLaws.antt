@@ -1,9 +1,10 @@
 -- The weekday of a date is 0 exactly if the date is not supported, and else 1 to 7.
 use Prim.Native.Nat.{ℕ, _≤_}
 use native.Mathlib.Omega.{arith}
-use mathlib.Core.Path.{_≡_, refl, _∙_}
+use mathlib.Core.Path.{_≡_, refl}
 use mathlib.Core.Bool.{Bool, true, false, cond}
-use Rattle.gregorian.specs.Date.{supportedDate, weekdayNumber, weekdayOrZero, firstYear, lastYear}
+use Rattle.gregorian.specs.Date.{supportedDate, firstYear, lastYear}
+use Rattle.calendar.specs.Date.{weekdayNumber, weekdayOrZero}
 
 module _ (y m d : ℕ) where
   pub weekday-zero : weekdayOrZero y m d ≡ 0 → supportedDate firstYear lastYear y m d ≡ false

@@ -1,7 +1,7 @@
 -- The definitions that the contracts cite.
-pub mod DateAnswer
+pub mod Date
+pub mod Days
 pub mod TimeOfDay
 pub mod UnixTime
-pub mod Weekday
 pub mod Representable
 pub mod Rules

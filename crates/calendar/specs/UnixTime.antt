@@ -5,7 +5,8 @@ use mathlib.Core.List.{[], _∷_}
 use lib.Dec.{leb}
 use lib.IntN.{ℤ, pos, natAbs, _-ℤ_, _*ℤ_}
 use Rattle.clock_time.specs.Errors.{Answer, accepted, refused, errorNumber, given, checked}
-use Rattle.gregorian.specs.Date.{supportedDate, daysSinceEpoch, firstYear, lastYear}
+use Rattle.gregorian.specs.Date.{supportedDate, firstYear, lastYear}
+use Rattle.calendar.specs.Date.{daysSinceEpoch}
 use Rattle.calendar.specs.TimeOfDay.{timeExists}
 use Rattle.clock_time.specs.declared.ClockTime.{ClockTime}
 use Rattle.calendar.specs.declared.unix_time.UnixTime.{UnixTime}

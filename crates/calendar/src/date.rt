@@ -4,10 +4,9 @@ use clock_time::Error;
 ghost use mathlib.Core.Path.{_≡_};
 ghost use mathlib.Core.Bool.{true};
 ghost use Prim.Native.Nat.{_+_, _-_, _*_, _/_, _<_};
-ghost use Rattle.gregorian.specs.Date.{supportedDate, daysSinceEpoch, dayNumber, weekdayOf, weekdayOrZero};
-ghost use Rattle.gregorian.specs.Date.{firstYear, lastYear};
-ghost use Rattle.calendar.specs.DateAnswer.{dateAnswer};
-ghost use Rattle.calendar.specs.Weekday.{withWeekday};
+ghost use Rattle.gregorian.specs.Date.{supportedDate, firstYear, lastYear};
+ghost use Rattle.calendar.specs.Date.{daysSinceEpoch, dayNumber, weekdayOf, weekdayOrZero, dateAnswer};
+ghost use Rattle.calendar.specs.Date.{withWeekday};
 
 // A number worked out from a date, or the error.
 pub enum DateAnswer {

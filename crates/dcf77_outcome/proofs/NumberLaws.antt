@@ -9,10 +9,10 @@ use lib.IntN.{pos}
 use Rattle.clock_time.specs.Errors.{Answer, accepted, refused}
 use Rattle.clock_time.specs.Same.{eqℤ}
 use Rattle.clock_time.proofs.SameLaws.{eqℤ-refl, eqℤ-true}
-use Rattle.gregorian.specs.Date.{daysSinceEpoch}
+use Rattle.calendar.specs.Date.{daysSinceEpoch}
 use Rattle.gregorian.specs.Rules.{GregorianDate}
 use Rattle.gregorian.proofs.DateLaws.{known}
-use Rattle.gregorian.proofs.Theorems.{day-after-exactly}
+use Rattle.calendar.proofs.Theorems.{day-after-exactly}
 use Rattle.dcf77.specs.Minute.{mark, readMinute}
 use Rattle.dcf77.specs.declared.MinuteTime.{MinuteTime}
 use Rattle.dcf77.proofs.Theorems.{read-minute-exactly, refused-minute-exactly}

@@ -4,7 +4,7 @@ use mathlib.Core.List.{List}
 use lib.IntN.{pos}
 use Rattle.clock_time.specs.Errors.{Answer, accepted, refused}
 use Rattle.clock_time.specs.Same.{eqℤ}
-use Rattle.gregorian.specs.Date.{daysSinceEpoch}
+use Rattle.calendar.specs.Date.{daysSinceEpoch}
 use Rattle.dcf77.specs.Minute.{mark, readMinute}
 use Rattle.dcf77.specs.declared.MinuteTime.{MinuteTime}
 

@@ -5,7 +5,7 @@ use mathlib.Core.Bool.{true}
 use mathlib.Core.List.{List}
 use lib.IntN.{pos}
 use Rattle.clock_time.specs.Order.{Gives}
-use Rattle.gregorian.specs.Days.{DayAfter}
+use Rattle.calendar.specs.Days.{DayAfter}
 use Rattle.dcf77.specs.Accepts.{AcceptsMinute}
 use Rattle.dcf77.specs.Lines.{minuteLines}
 use Rattle.dcf77.specs.declared.MinuteTime.{MinuteTime}

@@ -8,7 +8,8 @@ ghost use Prim.Native.Nat.{_+_, _*_, _<_};
 ghost use lib.IntN.{pos};
 ghost use Rattle.clock_time.specs.Errors.{accepted};
 ghost use Rattle.clock_time.specs.Same.{eqℤ};
-ghost use Rattle.gregorian.specs.Date.{supportedDate, daysSinceEpoch, firstYear, lastYear};
+ghost use Rattle.gregorian.specs.Date.{supportedDate, firstYear, lastYear};
+ghost use Rattle.calendar.specs.Date.{daysSinceEpoch};
 ghost use Rattle.dcf77.specs.Minute.{mark};
 ghost use Rattle.dcf77_outcome.specs.Number.{outcomeNumber, runNumber};
 

@@ -13,7 +13,8 @@ use Rattle.clock_time.specs.Errors.{Check, given, checked}
 use Rattle.clock_time.specs.Called.{calledAnswer, calledMemory, calledBoth}
 use Rattle.clock_time.specs.Writing.{writing}
 use Rattle.clock_time.specs.declared.ClockTime.{ClockTime}
-use Rattle.gregorian.specs.Date.{supportedDate, dayNumber, weekdayOf, firstYear, lastYear}
+use Rattle.gregorian.specs.Date.{supportedDate, firstYear, lastYear}
+use Rattle.calendar.specs.Date.{dayNumber, weekdayOf}
 use Rattle.calendar.specs.UnixTime.{isReading, instantOf, unixTime}
 use Rattle.decimal.specs.Decimal.{value, firstNonDigit, digits, readDigits, writeDigits}
 use Rattle.layout.specs.Text.{clockChecks, textChecks, readText}
@@ -62,8 +63,7 @@ use Rattle.c_readings.specs.Minutes.{readMinuteInto}
 use Rattle.c_feed.specs.Feed.{FeedMemory, feedInto}
 use Rattle.demands.specs.Refusals.{tests, RefusesInOrder, RefusesAndKeeps, CallRefusesAndKeeps}
 use Rattle.demands.specs.Accepted.{AcceptsMinuteNumbers}
-use Rattle.demands.specs.Lines.{textOrder, ownNumbers, minuteOrder, linesAs, kindLines}
-use Rattle.demands.specs.Lines.{writerLines, outcomeLines}
+use Rattle.demands.specs.Lines.{textOrder, ownNumbers, minuteOrder, linesAs, kindLines, writerLines, outcomeLines}
 use Rattle.demands.specs.Lines.{fillLines, correctionLines, instantLines, dateLines, readLines, writeLines}
 use Rattle.demands.specs.Lines.{readMinuteLines, instantLinesOf, feedLines}
 use Rattle.demands.proofs.KindLaws.{kind-laws}

@@ -10,7 +10,7 @@ use lib.IntN.{ℤ, pos, _*ℤ_}
 use lib.Seq.{take-at}
 use Rattle.clock_time.specs.Called.{called, calledAnswer, calledMemory, calledBoth}
 use Rattle.clock_time.specs.declared.ClockTime.{ClockTime}
-use Rattle.gregorian.specs.Date.{dayNumber, weekdayOf}
+use Rattle.calendar.specs.Date.{dayNumber, weekdayOf}
 use Rattle.calendar.specs.UnixTime.{instantOf, unixTime}
 use Rattle.calendar.proofs.RulesLaws.{valid-exactly}
 use Rattle.calendar.proofs.Theorems as calendars
@@ -34,8 +34,7 @@ use Rattle.dcf77.proofs.Theorems as minutes
 use Rattle.meinberg_gps.specs.Accepts.{AcceptsGps}
 use Rattle.elv_dcf7000.specs.Accepts.{AcceptsElv}
 use Rattle.dcf77.specs.Accepts.{AcceptsMinute}
-use Rattle.gregorian.specs.Days.{DayAfter, OnWeekday}
-use Rattle.gregorian.proofs.Theorems as days
+use Rattle.calendar.specs.Days.{DayAfter, OnWeekday}
 use Rattle.time_string.specs.Kind.{Reading, readingTime, kindOf, kindNumber, namedKind, readAs}
 use Rattle.time_string.specs.declared.Kind.{Kind}
 use Rattle.c_numbers.specs.Numbers.{minuteNumbers, minuteCount}
@@ -105,11 +104,11 @@ unix-time = instants.unix-time-exactly
 
 pub day-number : (year month day : ℕ)
     → ReadsExactly (λ n. DayAfter n year month day × (year ≤ 2069)) (dayNumber year month day)
-day-number = days.day-number-exactly
+day-number = calendars.day-number-exactly
 
 pub weekday : (year month day : ℕ)
     → ReadsExactly (λ w. OnWeekday year month day w × (year ≤ 2069)) (weekdayOf year month day)
-weekday = days.weekday-of-exactly
+weekday = calendars.weekday-of-exactly
 
 -- ---- the position of a GPS string
 pub read-position : (s : List ℕ) → ReadsExactly (λ p. PositionRules s × SaysPosition s p) (readPosition s)

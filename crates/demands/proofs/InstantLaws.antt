@@ -15,11 +15,11 @@ use Rattle.clock_time.specs.declared.ClockTime.{ClockTime}
 use Rattle.clock_time.proofs.ErrorLaws.{apart}
 use Rattle.clock_time.proofs.OrderLaws.{Agree}
 use Rattle.clock_time.proofs.Tests.{both}
-use Rattle.gregorian.specs.Date.{daysSinceEpoch}
+use Rattle.calendar.specs.Date.{daysSinceEpoch}
 use Rattle.calendar.specs.Rules.{ValidReading}
 use Rattle.calendar.specs.UnixTime.{isReading, instantOf, unixTime}
 use Rattle.calendar.proofs.RulesLaws.{valid-exactly}
-use Rattle.gregorian.proofs.Theorems.{day-after-exactly}
+use Rattle.calendar.proofs.Theorems.{day-after-exactly}
 use Rattle.c_numbers.specs.Numbers.{timeNumbers, timeCount}
 use Rattle.c_fields.specs.Ranges.{Range, within, timeRanges, fits, timeFrom, numbered}
 use Rattle.c_fields.proofs.FitsLaws.{first-time-numbers}

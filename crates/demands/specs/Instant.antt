@@ -6,7 +6,7 @@ use lib.ListN.{take}
 use lib.IntN.{ℤ, pos, _-ℤ_, _*ℤ_}
 use Rattle.clock_time.specs.declared.ClockTime.{ClockTime}
 use Rattle.calendar.specs.Rules.{ValidReading}
-use Rattle.gregorian.specs.Days.{DayAfter}
+use Rattle.calendar.specs.Days.{DayAfter}
 use Rattle.c_numbers.specs.Numbers.{timeNumbers, timeCount}
 
 -- "The instant is 86,400 × days since 1 January 1970 + 3,600 × hour + 60 × minute + second − 60 × offset. It may be

@@ -17,7 +17,7 @@ ghost use lib.ListN.{length};
 ghost use Rattle.clock_time.specs.Errors.{given, checked};
 ghost use Rattle.clock_time.specs.Writing.{written};
 ghost use Rattle.clock_time.specs.Reading.{readAnswer};
-ghost use Rattle.calendar.specs.Weekday.{withWeekday};
+ghost use Rattle.calendar.specs.Date.{withWeekday};
 ghost use Rattle.calendar.specs.UnixTime.{isReading};
 ghost use Rattle.decimal.specs.Decimal.{firstNonDigit, digits, digitsAnswer, readDigits, writeDigits};
 ghost use Rattle.layout.specs.Text.{supportedDay, clockChecks};

@@ -10,19 +10,18 @@ use lib.Dec.{eqb, leb, ltb, eqb→eq}
 use lib.ListN.{getD}
 use mir.Val.{boolByte}
 use borrow.Author.Tests.{eq-eqb, ne-eqb, eqb-true, leb-true, lt-ltb, le-ltb, ltb-false, not-true}
-use Rattle.calendar.specs.Weekday.{withWeekday}
+use Rattle.calendar.specs.Date.{withWeekday, weekdayOrZero}
 use Rattle.clock_time.specs.Errors.{Answer, refused, checked}
 use Rattle.clock_time.specs.Same.{eqℤ, sameFields, sameTime}
 use Rattle.clock_time.specs.declared.ClockTime.{ClockTime}
 use Rattle.clock_time.proofs.SameLaws.{eqℤ-refl, eqb-refl, beq-refl, beq-true, sameTime-true}
 use Rattle.clock_time.proofs.Tests.{both, below-at}
 use Rattle.clock_time.specs.Lists.{ascii}
-use Rattle.gregorian.specs.Date.{weekdayOrZero}
 use Rattle.calendar.specs.Representable.{isRepresentable}
 use Rattle.calendar.proofs.ValidLaws.{zone-in-range}
 use Rattle.decimal.specs.Decimal.{digits, value, valueFrom}
 use Rattle.decimal.proofs.DecimalLaws.{digit-range, digit-written, value-digits}
-use Rattle.layout.specs.Layout.{allowed, fitsFrom, FitsLayout, number}
+use Rattle.layout.specs.Layout.{allowed, fitsFrom, FitsLayout}
 use Rattle.layout.specs.Text.{supportedDay, clockChecks}
 use Rattle.layout.proofs.LayoutLaws.{tested-fits, digit-place}
 use Rattle.layout.proofs.TextLaws.{read-fitting}

@@ -10,8 +10,8 @@ use Rattle.clock_time.specs.Order.{Gives}
 use Rattle.clock_time.specs.Faithful.{Faithful}
 use Rattle.clock_time.specs.declared.ClockTime.{ClockTime}
 use Rattle.clock_time.proofs.SameLaws.{sameTime-refl, sameTime-true}
-use Rattle.gregorian.specs.Date.{weekdayOf}
-use Rattle.gregorian.proofs.Theorems.{weekday-of-exactly}
+use Rattle.calendar.specs.Date.{weekdayOf}
+use Rattle.calendar.proofs.Theorems.{weekday-of-exactly}
 use Rattle.calendar.specs.UnixTime.{isReading}
 use Rattle.calendar.specs.Representable.{isRepresentable}
 use Rattle.calendar.specs.Rules.{ReadingRules}

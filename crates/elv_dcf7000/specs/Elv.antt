@@ -10,8 +10,8 @@ use Rattle.clock_time.specs.Same.{eqℤ}
 use Rattle.clock_time.specs.Writing.{Written}
 use Rattle.clock_time.specs.declared.ClockTime.{ClockTime}
 use Rattle.clock_time.specs.Lists.{ascii}
-use Rattle.gregorian.specs.Date.{fullYear, weekdayOrZero, firstYear}
-use Rattle.calendar.specs.Weekday.{withWeekday}
+use Rattle.gregorian.specs.Date.{fullYear, firstYear}
+use Rattle.calendar.specs.Date.{weekdayOrZero, withWeekday}
 use Rattle.decimal.specs.Decimal.{digits}
 use Rattle.layout.specs.Layout.{digit, places, number}
 use Rattle.layout.specs.Text.{Format, clockFormat, writtenClock, readText, writeText}

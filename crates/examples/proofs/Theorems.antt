@@ -4,8 +4,7 @@ use mathlib.Core.List.{Option·toList}
 use Rattle.clock_time.specs.Same.{eqℤ}
 use Rattle.clock_time.specs.Lists.{ascii}
 use Rattle.gregorian.specs.Date.{isLeapYear, monthLengths, daysInMonth, dateExists, fullYear, supportedDate}
-use Rattle.gregorian.specs.Date.{daysOfYears}
-use Rattle.gregorian.specs.Date.{daysBeforeMonth, daysSinceEpoch}
+use Rattle.calendar.specs.Date.{daysOfYears, daysBeforeMonth, daysSinceEpoch}
 use Rattle.calendar.specs.TimeOfDay.{modulo, utcMinute, timeExists}
 use Rattle.calendar.specs.UnixTime.{offsetInRange, isReading, instantOf, unixTime}
 use Rattle.decimal.specs.Decimal.{isDigit, valueFrom}

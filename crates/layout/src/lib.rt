@@ -10,7 +10,7 @@ ghost use Rattle.clock_time.specs.Reading.{readAnswer};
 ghost use Rattle.layout.specs.Layout.{allowed, errorAt, offence, first, layoutError};
 ghost use Rattle.layout.specs.Text.{supportedDay, clockChecks, clockDigits};
 ghost use mathlib.Core.Bool.{cond, false};
-ghost use Rattle.calendar.specs.Weekday.{withWeekday};
+ghost use Rattle.calendar.specs.Date.{withWeekday};
 
 fn is_allowed(p: u32, b: u8) -> bool
     ensures { λ r. ⌜ r ≡ allowed p b ⌝ }

@@ -2,7 +2,7 @@ use borrow.Author.Needs.{needs}
 use Prim.Native.Nat.{ℕ}
 use native.Mathlib.Omega.{arith}
 use mathlib.Core.Path.{_≡_}
-use Rattle.gregorian.proofs.DateLaws.{day-known}
+use Rattle.calendar.proofs.DateLaws.{day-known}
 use Rattle.dcf77_outcome.proofs.days_to.Statement.{statement}
 use Rattle.dcf77_outcome.proofs.days_to.Tie as tie
 

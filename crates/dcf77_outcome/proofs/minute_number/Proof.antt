@@ -1,6 +1,6 @@
 use borrow.Author.Needs.{needs}
 use native.Mathlib.Omega.{arith}
-use Rattle.gregorian.proofs.DateLaws.{days-small}
+use Rattle.calendar.proofs.DateLaws.{days-small}
 use Rattle.dcf77_outcome.proofs.minute_number.Statement.{statement}
 use Rattle.dcf77_outcome.proofs.minute_number.Tie as tie
 

@@ -9,7 +9,7 @@ use Rattle.clock_time.specs.Errors.{accepted, checked}
 use Rattle.clock_time.specs.declared.ClockTime.{ClockTime}
 use Rattle.gregorian.specs.Date.{supportedDate, firstYear, lastYear}
 use Rattle.calendar.specs.TimeOfDay.{timeExists}
-use Rattle.calendar.specs.Weekday.{withWeekday}
+use Rattle.calendar.specs.Date.{withWeekday}
 use Rattle.calendar.proofs.WeekdayLaws.{weekday-least, weekday-most}
 use Rattle.layout.specs.Text.{supportedDay, clockChecks}
 use Rattle.layout.proofs.check_without_weekday.Statement.{statement}

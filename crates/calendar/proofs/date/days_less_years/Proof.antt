@@ -3,7 +3,8 @@ use native.Mathlib.Omega.{arith}
 use Prim.Native.Nat.{_*_, _≤_}
 use lib.Dec.{ltb}
 use mir.Val.{boolByte}
-use Rattle.gregorian.proofs.DateLaws.{from-march, known, days-sum}
+use Rattle.gregorian.proofs.DateLaws.{known}
+use Rattle.calendar.proofs.DateLaws.{from-march, days-sum}
 use Rattle.calendar.proofs.date.days_less_years.Statement.{statement}
 use Rattle.calendar.proofs.date.days_less_years.Tie as tie
 

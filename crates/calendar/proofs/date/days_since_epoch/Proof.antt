@@ -1,6 +1,7 @@
 use borrow.Author.Needs.{needs}
 use native.Mathlib.Omega.{arith}
-use Rattle.gregorian.proofs.DateLaws.{known, days-small}
+use Rattle.gregorian.proofs.DateLaws.{known}
+use Rattle.calendar.proofs.DateLaws.{days-small}
 use Rattle.calendar.proofs.date.days_since_epoch.Statement.{statement}
 use Rattle.calendar.proofs.date.days_since_epoch.Tie as tie
 

@@ -1,6 +1,6 @@
 use borrow.Author.Needs.{needs}
 use borrow.Author.Tests.{eq-eqb, ne-eqb}
-use Rattle.gregorian.proofs.DateLaws.{weekday-answer}
+use Rattle.calendar.proofs.DateLaws.{weekday-answer}
 use Rattle.calendar.proofs.date.weekday_of.Statement.{statement}
 use Rattle.calendar.proofs.date.weekday_of.Tie as tie
 

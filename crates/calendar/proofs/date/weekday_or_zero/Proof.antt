@@ -3,8 +3,10 @@ use native.Mathlib.Omega.{arith}
 use Prim.Native.Nat.{_+_, _-_, _<_}
 use mathlib.Core.Path.{_≡_, sym, _∙_}
 use mathlib.Core.Bool.{true}
-use Rattle.gregorian.specs.Date.{supportedDate, weekdayOrZero, firstYear, lastYear}
-use Rattle.gregorian.proofs.DateLaws.{known, rest-small, weekday-sum}
+use Rattle.gregorian.specs.Date.{supportedDate, firstYear, lastYear}
+use Rattle.calendar.specs.Date.{weekdayOrZero}
+use Rattle.gregorian.proofs.DateLaws.{known}
+use Rattle.calendar.proofs.DateLaws.{rest-small, weekday-sum}
 use Rattle.calendar.proofs.date.weekday_or_zero.Statement.{statement}
 use Rattle.calendar.proofs.date.weekday_or_zero.Tie as tie
 

@@ -1,5 +1,5 @@
 use borrow.Author.Needs.{needs}
-use Rattle.gregorian.proofs.DateLaws.{weeks-of}
+use Rattle.calendar.proofs.DateLaws.{weeks-of}
 use Rattle.calendar.proofs.date.weeks.Statement.{statement}
 use Rattle.calendar.proofs.date.weeks.Tie as tie
 

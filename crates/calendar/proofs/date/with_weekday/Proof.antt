@@ -2,7 +2,7 @@ use borrow.Author.Needs.{needs, sfits-of}
 use mir.Syntax.{w16}
 use mir.Val.{SFits}
 use mir.Facts.{toZ-ofZ}
-use Rattle.calendar.specs.Weekday.{withWeekday}
+use Rattle.calendar.specs.Date.{withWeekday}
 use Rattle.calendar.proofs.date.with_weekday.Statement.{statement}
 use Rattle.calendar.proofs.date.with_weekday.Tie as tie
 

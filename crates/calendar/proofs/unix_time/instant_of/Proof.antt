@@ -1,16 +1,15 @@
-use borrow.Author.Needs.{needs}
+use borrow.Author.Needs.{needs, sfits-of}
 use native.Mathlib.Omega.{arith}
 use mathlib.Core.Path.{_≡_}
 use mathlib.Core.Bool.{true}
 use mir.Syntax.{w16, w64}
 use mir.Val.{SFits}
 use mir.Facts.{toZ-ofZ}
-use borrow.Author.Needs.{sfits-of}
 use Rattle.clock_time.proofs.Tests.{both}
 use Rattle.clock_time.specs.declared.ClockTime.{ClockTime}
 use Rattle.gregorian.specs.Date.{supportedDate, firstYear, lastYear}
 use Rattle.calendar.specs.UnixTime.{isReading, instantOf}
-use Rattle.gregorian.proofs.DateLaws.{days-small}
+use Rattle.calendar.proofs.DateLaws.{days-small}
 use Rattle.calendar.proofs.unix_time.instant_of.Statement.{statement}
 use Rattle.calendar.proofs.unix_time.instant_of.Tie as tie
 

@@ -13,14 +13,13 @@ use borrow.Author.Tests.{le-leb, ne-eqb, not-false}
 use Rattle.clock_time.specs.Errors.{accepted, given, checked}
 use Rattle.clock_time.proofs.ErrorLaws.{accepted-passes}
 use Rattle.clock_time.specs.Lists.{sum}
-use Rattle.gregorian.specs.Date.{isLeapYear, monthLengths, daysInMonth, dateExists, supportedDate, daysOfYears}
-use Rattle.gregorian.specs.Date.{firstYear, lastYear}
-use Rattle.gregorian.specs.Date.{daysBeforeMonth, daysSinceEpoch, dayNumber, weekdayNumber, weekdayOf}
-use Rattle.gregorian.specs.Date.{weekdayOrZero}
+use Rattle.gregorian.specs.Date.{isLeapYear, monthLengths, daysInMonth, dateExists, supportedDate, firstYear, lastYear}
 use Rattle.gregorian.specs.Rules.{GregorianDate}
-use Rattle.gregorian.specs.Days.{DayAfter, epoch, next-day, next-month, next-year, OnWeekday}
 use Rattle.gregorian.proofs.DateLaws.{every-month}
 use Rattle.gregorian.proofs.RulesLaws.{date-exactly, most-days, supported-exactly}
+use Rattle.calendar.specs.Date.{daysOfYears, daysBeforeMonth, daysSinceEpoch, dayNumber, weekdayNumber}
+use Rattle.calendar.specs.Date.{weekdayOf, weekdayOrZero}
+use Rattle.calendar.specs.Days.{DayAfter, epoch, next-day, next-month, next-year, OnWeekday}
 
 -- ---- months
 -- a month begins where the one before it ends

@@ -6,11 +6,8 @@ use mathlib.Core.Bool.{Bool, true, false, cond, _||_}
 use mathlib.Core.List.{List, [], _∷_, _++_, append-assoc, append-nil}
 use lib.Dec.{eqb}
 use lib.ListN.{length, getD, take, drop, set, length-append, length-set}
-use lib.Seq.{append-snoc, drop-cons, drop-length, set-at}
+use lib.Seq.{append-snoc, drop-cons, drop-length, set-at, take-length}
 use borrow.Author.Tests.{le-ltb}
-use Rattle.clock_time.specs.declared.WriteAnswer.{WriteAnswer}
-use Rattle.clock_time.specs.Writing.{Written, written, writing}
-use Rattle.clock_time.proofs.WritingLaws.{writing-room}
 use Rattle.framing.specs.declared.Mode.{Mode}
 use Rattle.framing.specs.declared.Mode.the-variants.{Outside, Inside, Overlong}
 use Rattle.framing.specs.declared.Framer.{Framer}
@@ -98,13 +95,11 @@ unfolding framerIn
 state-small state h = omega arith
 
 -- ---- bytes written whole, and to the front
-pub written-front : (r : WriteAnswer) (x s d : List ℕ) → length s ≤ length d → written r x ≡ writing true s d
-    → x ≡ s ++ drop (length s) d
-written-front r x s d h e = ap (λ (o : Written). o .memory) (e ∙ sym (writing-room s d h))
+pub copied-front : (x s d : List ℕ) → x ≡ take (length s) s ++ drop (length s) d → x ≡ s ++ drop (length s) d
+copied-front x s d e = e ∙ rw (take-length s)
 
-pub written-whole : (r : WriteAnswer) (x s d : List ℕ) → length s ≡ length d → written r x ≡ writing true s d → x ≡ s
-written-whole r x s d h e =
-    written-front r x s d (omega (arith, h)) e ∙ rw (h, drop-length d, append-nil s)
+pub copied-whole : (x s d : List ℕ) → length s ≡ length d → x ≡ take (length s) s ++ drop (length s) d → x ≡ s
+copied-whole x s d h e = copied-front x s d e ∙ rw (h, drop-length d, append-nil s)
 
 -- ---- what is stored
 two-after : (n : ℕ) (bytes d : List ℕ) (x y : ℕ) → length bytes ≡ n → suc n < length d

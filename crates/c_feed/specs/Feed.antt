@@ -52,7 +52,7 @@ abbrev pub feedMemory : List ℕ → ℕ → ℕ → FeedMemory
 feedMemory state taken event = record { state = state; taken = taken; event = event }
 
 -- "Over a lent slice the feed stops after an allowance of bytes that the caller names [..]. It returns the number of
--- bytes taken" (01, The serial feed); 20 where the state has fewer than 68 bytes
+-- bytes taken" (01, The serial feed); 20 if the state has fewer than 68 bytes
 unfoldable pub feedInto : FeedMemory → List ℕ → ℕ → Exit (Unit {0}) FeedMemory
 feedInto old s limit =
     let r = feedOf (framerIn (old .state)) (take limit s) in

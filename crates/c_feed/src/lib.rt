@@ -7,8 +7,7 @@ ghost use mathlib.Core.List.{_++_};
 ghost use Prim.Native.Nat.{_≤_};
 ghost use lib.ListN.{length, drop};
 ghost use Rattle.clock_time.specs.Called.{called, calledMemory};
-ghost use Rattle.c_feed.specs.Feed.{modeNumber, modeOf, framerIn, stateBytes, eventNumber, feedMemory};
-ghost use Rattle.c_feed.specs.Feed.{feedInto};
+ghost use Rattle.c_feed.specs.Feed.{modeNumber, modeOf, framerIn, stateBytes, eventNumber, feedMemory, feedInto};
 
 fn mode_number(mode: Mode) -> u8
     ensures { λ r. ⌜ r ≡ modeNumber mode ⌝ }
@@ -48,7 +47,7 @@ fn load(state: &[u8]) -> Framer
     ensures { λ r. ⌜ r ≡ framerIn (now (state .entry)) ⌝ }
 {
     let mut bytes = [0u8; 66];
-    clock_time::write_bytes(true, &state[..66], &mut bytes);
+    bytes::copy(&state[..66], &mut bytes);
     let count = state[66] as usize;
     let mode = mode_of(state[67]);
     Framer { bytes, count, mode }
@@ -59,7 +58,7 @@ fn store(framer: Framer, state: &mut [u8])
     ensures { λ _. ⌜ now (state .exit) ≡ stateBytes framer ++ drop 68 (now (state .entry)) ⌝ }
 {
     let bytes = framer.bytes;
-    clock_time::write_bytes(true, &bytes, state);
+    bytes::copy(&bytes, state);
     let mode = framer.mode;
     state[66] = framer.count as u8;
     state[67] = mode_number(mode);

@@ -81,7 +81,7 @@ pub numbered-unfit : {A : Type 0} {fit : Bool} (a : A) → fit ≡ false → ref
 unfolding numbered
 numbered-unfit a h = rw h
 
--- the same where the code tests the length and then the numbers
+-- the same if the code tests the length and then the numbers
 module _ (rs : List Range) (z : List ℤ) {fit : Bool} (e : fit ≡ fits rs z) where
   pub all-fit : eqb (length z) (length rs) && fit ≡ true → fits rs z ≡ true
   all-fit h = both (eqb (length z) (length rs)) (fits rs z) (rw e at h) .1

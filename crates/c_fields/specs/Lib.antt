@@ -1,3 +1,4 @@
 -- The definitions that the contracts cite.
 pub mod Ranges
 pub mod Fits
+pub mod Numbered

@@ -6,22 +6,35 @@ use clock_time::ClockTime;
 use clock_time::Error;
 use clock_time::MinuteDetail;
 use clock_time::Position;
-use clock_time::ReadAnswer;
-use dcf77::MinuteAnswer;
 use dcf77::MinuteTime;
-use meinberg_gps::GpsAnswer;
 use meinberg_gps::GpsTime;
 ghost use mathlib.Core.Path.{_≡_};
 ghost use mathlib.Core.Bool.{true};
 ghost use Prim.Native.Nat.{_<_};
 ghost use lib.IntN.{natAbs};
 ghost use lib.ListN.{length};
-ghost use Rattle.clock_time.specs.Reading.{readAnswer};
-ghost use Rattle.meinberg_gps.specs.Gps.{gpsAnswer};
-ghost use Rattle.dcf77.specs.Minute.{minuteAnswer};
+ghost use Rattle.c_fields.specs.Numbered.{numberedTime, numberedGps, numberedMinute};
 ghost use Rattle.c_fields.specs.Ranges.{within, upTo, i16Range, timeRanges, gpsRanges, minuteRanges, ranges};
 ghost use Rattle.c_fields.specs.Ranges.{fits, at, isSet, timeFrom, gpsFrom, minuteFrom, timeOf};
 ghost use Rattle.c_fields.specs.Ranges.{firstTimeOf, gpsOf, minuteOf};
+
+// The clock time that numbers stand for, or the error. These answers are no reader's.
+pub enum NumberedTime {
+    Time(ClockTime),
+    Refused(Error),
+}
+
+// The clock time and position that numbers stand for, or the error.
+pub enum NumberedGps {
+    Gps(GpsTime),
+    Refused(Error),
+}
+
+// The minute that numbers stand for, or the error.
+pub enum NumberedMinute {
+    Minute(MinuteTime),
+    Refused(Error),
+}
 
 // The most in 16 and in 8 bits without a sign.
 const W: i32 = 65535;
@@ -149,41 +162,41 @@ fn is_time(z: &[i32]) -> bool
 }
 
 // The clock time that the first 14 numbers are. Refuses with Unrepresentable (23) if they are none.
-pub fn first_time_of(z: &[i32]) -> ReadAnswer
-    ensures { λ r. ⌜ readAnswer r ≡ firstTimeOf (now (z .entry)) ⌝ }
+pub fn first_time_of(z: &[i32]) -> NumberedTime
+    ensures { λ r. ⌜ numberedTime r ≡ firstTimeOf (now (z .entry)) ⌝ }
 {
     if is_time(z) {
-        return ReadAnswer::Read(time_from(z));
+        return NumberedTime::Time(time_from(z));
     }
-    ReadAnswer::Refused(Error::Unrepresentable)
+    NumberedTime::Refused(Error::Unrepresentable)
 }
 
 // The clock time that 14 numbers are. Refuses with Unrepresentable (23) if they are none.
-pub fn time_of(z: &[i32]) -> ReadAnswer
-    ensures { λ r. ⌜ readAnswer r ≡ timeOf (now (z .entry)) ⌝ }
+pub fn time_of(z: &[i32]) -> NumberedTime
+    ensures { λ r. ⌜ numberedTime r ≡ timeOf (now (z .entry)) ⌝ }
 {
     if (z.len() == TIME_FIELDS) & is_time(z) {
-        return ReadAnswer::Read(time_from(z));
+        return NumberedTime::Time(time_from(z));
     }
-    ReadAnswer::Refused(Error::Unrepresentable)
+    NumberedTime::Refused(Error::Unrepresentable)
 }
 
 // The clock time and position that 17 numbers are. Refuses with Unrepresentable (23) if they are none.
-pub fn gps_of(z: &[i32]) -> GpsAnswer
-    ensures { λ r. ⌜ gpsAnswer r ≡ gpsOf (now (z .entry)) ⌝ }
+pub fn gps_of(z: &[i32]) -> NumberedGps
+    ensures { λ r. ⌜ numberedGps r ≡ gpsOf (now (z .entry)) ⌝ }
 {
     if (z.len() == GPS_FIELDS) & are_within(&GPS_LEAST, &GPS_MOST, z) {
-        return GpsAnswer::Read(gps_from(z));
+        return NumberedGps::Gps(gps_from(z));
     }
-    GpsAnswer::Refused(Error::Unrepresentable)
+    NumberedGps::Refused(Error::Unrepresentable)
 }
 
 // The minute that 16 numbers are. Refuses with Unrepresentable (23) if they are none.
-pub fn minute_of(z: &[i32]) -> MinuteAnswer
-    ensures { λ r. ⌜ minuteAnswer r ≡ minuteOf (now (z .entry)) ⌝ }
+pub fn minute_of(z: &[i32]) -> NumberedMinute
+    ensures { λ r. ⌜ numberedMinute r ≡ minuteOf (now (z .entry)) ⌝ }
 {
     if (z.len() == MINUTE_FIELDS) & are_within(&MINUTE_LEAST, &MINUTE_MOST, z) {
-        return MinuteAnswer::Read(minute_from(z));
+        return NumberedMinute::Minute(minute_from(z));
     }
-    MinuteAnswer::Refused(Error::Unrepresentable)
+    NumberedMinute::Refused(Error::Unrepresentable)
 }

@@ -22,7 +22,7 @@ gpsCount = 17
 abbrev pub minuteCount : ℕ
 minuteCount = 16
 
--- a flag as a number: 1 where it is set, else 0
+-- a flag as a number: 1 if it is set, else 0
 abbrev pub flagNumber : Bool → ℤ
 flagNumber on = cond on (pos 1) (pos 0)
 

@@ -25,7 +25,7 @@ unfoldable pub readNumbered : ℕ → List ℕ → Answer Reading
 readNumbered n s = andThen (kindNamed n) (λ kind. readAs kind s)
 
 -- "a data collector written in C calls them on numbers and byte slices" (01, Which form belongs where): as the kind's
--- reader, and then 20 where there is no room
+-- reader, and then 20 if there is no room
 unfoldable pub readInto : ℕ → List ℕ → List ℤ → Exit (Unit {0}) (List ℤ)
 readInto n s lent = putAnswer readingNumbers (readNumbered n s) lent
 

@@ -1,6 +1,6 @@
 // The Unix time of a reading's numbers.
+use c_fields::NumberedTime;
 use calendar::unix_time::UnixTime;
-use clock_time::ReadAnswer;
 ghost use mathlib.Core.Path.{_≡_};
 ghost use Rattle.calendar.specs.UnixTime.{unixTimeAnswer};
 ghost use Rattle.clock_time.specs.Called.{called, calledAnswer};
@@ -27,7 +27,7 @@ pub extern "C" fn radio_clock_unix_time(fields: &[i32], time: &mut i64) -> u8
         ⌝ }
 {
     match c_fields::first_time_of(fields) {
-        ReadAnswer::Read(t) => put_instant(calendar::unix_time::unix_time(t), time),
-        ReadAnswer::Refused(e) => clock_time::error_number(e),
+        NumberedTime::Time(t) => put_instant(calendar::unix_time::unix_time(t), time),
+        NumberedTime::Refused(e) => clock_time::error_number(e),
     }
 }

@@ -17,14 +17,14 @@ use Rattle.time_string.specs.declared.Kind.{Kind}
 use Rattle.time_string.specs.declared.Kind.the-variants.{Standard, Pzf, Gps, Elv}
 use Rattle.c_fields.specs.Ranges.{timeOf, gpsOf, minuteOf}
 
--- "For a writer: 23, 20" (01, Refusal numbers): as the kind's writer, after 23 where the numbers are no reading's
+-- "For a writer: 23, 20" (01, Refusal numbers): as the kind's writer, after 23 if the numbers are no reading's
 unfoldable pub writeAs : Kind → List ℤ → List ℕ → Written
 writeAs Standard z buffer = leaving buffer (timeOf z) (λ t. writeStandard t buffer)
 writeAs Pzf z buffer = leaving buffer (timeOf z) (λ t. writePzf t buffer)
 writeAs Gps z buffer = leaving buffer (gpsOf z) (λ g. writeGps g buffer)
 writeAs Elv z buffer = leaving buffer (timeOf z) (λ t. writeElv t buffer)
 
--- the same for the kind that a number names, and 1 where it names none
+-- the same for the kind that a number names, and 1 if it names none
 unfoldable pub writeFrom : ℕ → List ℤ → List ℕ → Written
 writeFrom n z buffer = leaving buffer (kindNamed n) (λ kind. writeAs kind z buffer)
 

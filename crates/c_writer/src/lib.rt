@@ -1,10 +1,10 @@
 // The numbers of a reading as a string of a kind, or as a run of marks.
+use c_fields::NumberedGps;
+use c_fields::NumberedMinute;
+use c_fields::NumberedTime;
 use clock_time::ClockTime;
 use clock_time::Error;
-use clock_time::ReadAnswer;
 use clock_time::WriteAnswer;
-use dcf77::MinuteAnswer;
-use meinberg_gps::GpsAnswer;
 ghost use mathlib.Core.Path.{_≡_};
 ghost use Rattle.clock_time.specs.Writing.{written};
 ghost use Rattle.time_string.specs.declared.Kind.{Kind};
@@ -27,8 +27,8 @@ fn write_time_from(kind: u8, fields: &[i32], out: &mut [u8]) -> WriteAnswer
     ensures { λ r. ⌜ written r (now (out .exit)) ≡ writeTimeFrom kind (now (fields .entry)) (now (out .entry)) ⌝ }
 {
     match c_fields::time_of(fields) {
-        ReadAnswer::Read(t) => write_time(kind, t, out),
-        ReadAnswer::Refused(e) => WriteAnswer::Refused(e),
+        NumberedTime::Time(t) => write_time(kind, t, out),
+        NumberedTime::Refused(e) => WriteAnswer::Refused(e),
     }
 }
 
@@ -36,8 +36,8 @@ fn write_gps(fields: &[i32], out: &mut [u8]) -> WriteAnswer
     ensures { λ r. ⌜ written r (now (out .exit)) ≡ writeAs Kind.Gps (now (fields .entry)) (now (out .entry)) ⌝ }
 {
     match c_fields::gps_of(fields) {
-        GpsAnswer::Read(g) => meinberg_gps_writer::write_gps(g, out),
-        GpsAnswer::Refused(e) => WriteAnswer::Refused(e),
+        NumberedGps::Gps(g) => meinberg_gps_writer::write_gps(g, out),
+        NumberedGps::Refused(e) => WriteAnswer::Refused(e),
     }
 }
 
@@ -62,7 +62,7 @@ pub fn write_marks(fields: &[i32], out: &mut [u8]) -> WriteAnswer
     ensures { λ r. ⌜ written r (now (out .exit)) ≡ writeMinuteFrom (now (fields .entry)) (now (out .entry)) ⌝ }
 {
     match c_fields::minute_of(fields) {
-        MinuteAnswer::Read(a) => dcf77_writer::write_minute(a, out),
-        MinuteAnswer::Refused(e) => WriteAnswer::Refused(e),
+        NumberedMinute::Minute(a) => dcf77_writer::write_minute(a, out),
+        NumberedMinute::Refused(e) => WriteAnswer::Refused(e),
     }
 }

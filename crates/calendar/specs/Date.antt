@@ -37,7 +37,7 @@ unfoldable pub weekdayOf : ℕ → ℕ → ℕ → Answer ℕ
 weekdayOf year month day =
     checked (given 5 (not (supportedDate firstYear lastYear year month day)) ∷ []) (weekdayNumber year month day)
 
--- 0, which is no weekday, where the date is not one of 1970 to 2069
+-- 0, which is no weekday, if the date is not one of 1970 to 2069
 unfoldable pub weekdayOrZero : ℕ → ℕ → ℕ → ℕ
 weekdayOrZero year month day = cond (supportedDate firstYear lastYear year month day) (weekdayNumber year month day) 0
 

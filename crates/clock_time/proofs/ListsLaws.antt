@@ -1,7 +1,7 @@
 -- Laws of a slice.
 use Prim.Native.Nat.{ℕ, zero, suc, _+_}
 use native.Mathlib.Nat.{zero-add, add-suc, suc-add}
-use mathlib.Core.Path.{_≡_, refl, ap, _∙_}
+use mathlib.Core.Path.{_≡_, refl, sym, ap, _∙_}
 use mathlib.Core.List.{List, [], _∷_, _++_}
 use lib.ListN.{length, getD}
 use Rattle.clock_time.specs.Lists.{slice}
@@ -18,6 +18,10 @@ slice-tail (suc k) at b s = ap (λ (l : List ℕ). getD s at 0 ∷ l) (slice-tai
 pub slice-all : (s : List ℕ) → slice 0 (length s) s ≡ s
 slice-all [] = refl
 slice-all (b ∷ s) = ap (λ (l : List ℕ). b ∷ l) (slice-tail (length s) 0 b s ∙ slice-all s)
+
+-- a list of a known length, number by number
+pub slice-known : (k : ℕ) (s : List ℕ) → length s ≡ k → s ≡ slice 0 k s
+slice-known k s h = sym (slice-all s) ∙ rw h
 
 -- a slice and the next one
 pub slice-slice : (s : List ℕ) (j k at : ℕ) → slice at j s ++ slice (j + at) k s ≡ slice at (j + k) s

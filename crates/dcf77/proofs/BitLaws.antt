@@ -28,7 +28,7 @@ module _ (m : List ℕ) (small : (k : ℕ) → getD m k 0 ≤ 1) where
       let n = binary k (suc at) m in
       rw (low-part n h, high-part n h, bits-binary k (suc at))
 
-  -- where the whole is even, the last mark is the sum of the others modulo 2
+  -- if the whole is even, the last mark is the sum of the others modulo 2
   pub parity-mark : (k at : ℕ) → longs (suc k) at m % 2 ≡ 0 → sum (slice at k m) % 2 ≡ getD m (at + k) 0
   parity-mark k at even =
       let h : (sum (slice at k m) + getD m (at + k) 0) % 2 ≡ 0 = rw (longs-last m k at) at even in

@@ -37,7 +37,7 @@ binary (suc k) at m = getD m at 0 + 2 * binary k (suc at) m
 unfoldable pub twoDigits : ℕ → ℕ → List ℕ → ℕ
 twoDigits at tens m = binary 4 at m + 10 * binary tens (4 + at) m
 
--- the sum of k marks from a place on: how many are long, where all are short or long
+-- the sum of k marks from a place on: how many are long, if all are short or long
 unfoldable pub longs : ℕ → ℕ → List ℕ → ℕ
 longs zero at m = 0
 longs (suc k) at m = getD m at 0 + longs k (suc at) m

@@ -26,7 +26,7 @@ pub record Numbers (m : List ℕ) (n h d : ℕ) : Type 0 where
 abbrev pub fourBytes : ℕ → List ℕ → ℕ
 fourBytes at m = getD m at 0 + 256 * (getD m (at + 1) 0 + 256 * (getD m (at + 2) 0 + 256 * getD m (at + 3) 0))
 
--- the number of the first check that fails, 0 where none does
+-- the number of the first check that fails, 0 if none does
 unfoldable pub firstNumber : List Check → ℕ
 firstNumber [] = 0
 firstNumber (k ∷ ks) = cond (k .fails) (k .number) (firstNumber ks)

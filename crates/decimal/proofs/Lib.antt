@@ -1,6 +1,3 @@
--- The laws of decimal digits, and the crate's main results.
+-- The laws of decimal digits.
 pub mod DecimalLaws
 pub mod PairLaws
-pub mod ReadLaws
-pub mod WriteLaws
-pub mod Theorems

@@ -2,9 +2,9 @@
 -- numbered refusal, in the order document 01 gives. A refusal hands back its number and nothing else, and changes no
 -- byte or number of the memory we lent." That a function ends, on any input, is part of every function's proof. The
 -- functions in src/ have these statements as their contracts.
-use Prim.Native.Nat.{ℕ, _^_}
+use Prim.Native.Nat.{ℕ}
 use mathlib.Core.Path.{refl}
-use mathlib.Core.Bool.{Bool, not, _&&_}
+use mathlib.Core.Bool.{Bool, not}
 use mathlib.Core.List.{List, [], _∷_, _++_}
 use lib.Dec.{leb, ltb}
 use lib.ListN.{length}
@@ -16,7 +16,6 @@ use Rattle.clock_time.specs.declared.ClockTime.{ClockTime}
 use Rattle.gregorian.specs.Date.{supportedDate, firstYear, lastYear}
 use Rattle.calendar.specs.Date.{dayNumber, weekdayOf}
 use Rattle.calendar.specs.UnixTime.{isReading, instantOf, unixTime}
-use Rattle.decimal.specs.Decimal.{value, firstNonDigit, digits, readDigits, writeDigits}
 use Rattle.layout.specs.Text.{clockChecks, textChecks, readText}
 use Rattle.layout.proofs.LinesLaws as text-lines
 use Rattle.meinberg_standard.specs.Standard.{standard, standardFields, readStandard, writeStandard}
@@ -280,13 +279,6 @@ pub minute-of : (z : List ℤ) →
 unfolding numbered
 minute-of z = by-tests (minuteFrom z) (given 23 (not (fitsAll minuteRanges z)) ∷ []) _ refl
 
-pub read-digits : (s : List ℕ) →
-    RefusesInOrder (tests (given 1 (ltb 19 (length s)) ∷ given 3 (ltb (firstNonDigit s) (length s)) ∷ []))
-    (1 ∷ 3 ∷ []) (readDigits s .answer)
-read-digits s =
-    by-tests (value s) (given 1 (ltb 19 (length s)) ∷ given 3 (ltb (firstNonDigit s) (length s)) ∷ [])
-    (readDigits s .answer) (entry.digits-checks s)
-
 -- a writer's tests, with what they are made of: that bytes stand for what is to be written, and that there is room
 module _ (stand : Bool) (bytes d : List ℕ) where
   pub write-bytes :
@@ -299,13 +291,6 @@ module _ (stand : Bool) (bytes d : List ℕ) where
     where
       lines : List Check
       lines = given 23 (not stand) ∷ given 20 (ltb (length d) (length bytes)) ∷ []
-
-pub write-digits : (n k : ℕ) (d : List ℕ) →
-    RefusesAndKeeps
-    (tests (given 23 (not (leb k 19 && ltb n (10 ^ k))) ∷ given 20 (ltb (length d) (length (digits k n))) ∷ []))
-    (23 ∷ 20 ∷ []) d (writeDigits n k d)
-unfolding writeDigits
-write-digits n k d = write-bytes _ _ d
 
 pub write-line : (t : ClockTime) (d : List ℕ) →
     RefusesAndKeeps (tests (given 23 (not (isReading t)) ∷ given 20 (ltb (length d) (length (timeLine t))) ∷ []))

@@ -3,13 +3,12 @@ use Prim.Native.Nat.{ℕ}
 use mathlib.Core.Path.{_≡_, refl}
 use mathlib.Core.Bool.{Bool, true, false, cond, not, _||_}
 use mathlib.Core.List.{List, [], _∷_, _++_}
-use lib.Dec.{eqb, ltb}
+use lib.Dec.{eqb}
 use lib.ListN.{length, drop}
 use lib.IntN.{ℤ}
-use Rattle.clock_time.specs.Errors.{Answer, accepted, refused, given, checked}
+use Rattle.clock_time.specs.Errors.{accepted, refused, given, checked}
 use Rattle.clock_time.specs.Exit.{leaves}
 use Rattle.calendar.specs.UnixTime.{isReading, instantOf, unixTime}
-use Rattle.decimal.specs.Decimal.{value, firstNonDigit, Placed, readDigits}
 use Rattle.layout.specs.Layout.{has}
 use Rattle.time_string.specs.Kind.{kindOf, kindNumber, kindNamed, namedKind, readAs}
 use Rattle.time_string.specs.declared.Kind.{Kind}
@@ -90,23 +89,6 @@ read-minute-checks m fields =
     let a = minuteFields m in
     then-leaves a tt (roomCheck minuteCount fields ∷ []) fields (inFront (minuteNumbers a) fields)
     (λ x. putNumbers (minuteNumbers x) fields) (put-checks minuteNumbers fields a minuteCount refl) (minuteChecks m)
-
--- ---- digits
--- an answer with a place beside it
-abbrev placed : Answer ℕ → ℕ → Placed
-placed a i = record { answer = a; place = i }
-
-pub digits-checks : (s : List ℕ) → readDigits s .answer
-    ≡ checked (given 1 (ltb 19 (length s)) ∷ given 3 (ltb (firstNonDigit s) (length s)) ∷ []) (value s)
-unfolding readDigits
-digits-checks s = go (ltb 19 (length s)) (ltb (firstNonDigit s) (length s))
-  where
-    go : (a b : Bool) → cond a (placed (refused 1) 0)
-        (cond b (placed (refused 3) (firstNonDigit s)) (placed (accepted (value s)) 0)) .answer
-        ≡ checked (given 1 a ∷ given 3 b ∷ []) (value s)
-    go true b = refl
-    go false true = refl
-    go false false = refl
 
 -- ---- the instant
 pub unix-time-checks : (z : List ℤ) → unixTimeOf z

@@ -28,7 +28,7 @@ elvLayout =
 abbrev pub elvFlags : List ℕ → ℕ
 elvFlags s = number 2 18 s
 
--- the fault of "FF is 00..07, else 4" (01, Meinberg and ELV strings); where one of its bytes is no digit, that is 3
+-- the fault of "FF is 00..07, else 4" (01, Meinberg and ELV strings); if one of its bytes is no digit, that is 3
 unfoldable pub elvFlagFault : List ℕ → Bool
 elvFlagFault s = ltb 7 (elvFlags s)
 

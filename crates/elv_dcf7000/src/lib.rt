@@ -10,41 +10,17 @@ ghost use Rattle.clock_time.specs.Reading.{readAnswer};
 ghost use Rattle.layout.specs.Layout.{FitsLayout, fitsFrom, layoutError};
 ghost use Rattle.elv_dcf7000.specs.Elv.{elvLayout, elvFlagFault, elvOffset, sentFields, readElv};
 
-// The layout, as the definition `elvLayout` has it.
-const D: u32 = 256;
-
-const ELV: [u32; 21] = [
-    D,
-    D,
-    45,
-    D,
-    D,
-    45,
-    D,
-    D,
-    45,
-    D,
-    D,
-    45,
-    D,
-    D,
-    45,
-    D,
-    D,
-    45,
-    D,
-    D,
-    13,
-];
+// The layout in a picture, as the definition `elvLayout` has it.
+const ELV: [u8; 21] = *b"00-00-00-00-00-00-00\r";
 
 // Whether every place has a byte that may stand there. The last eight places begin with three that are tested already.
 fn fits(s: &[u8]) -> bool
     requires { ⌜ length (now s) ≡ 21 ⌝ }
     ensures { λ r. ⌜ r ≡ fitsFrom true 0 elvLayout (now (s .entry)) ⌝ }
 {
-    layout_words::eight_fit(s, 0, b'0', b'0', b'-', b'0', b'0', b'-', b'0', b'0')
-        & layout_words::eight_fit(s, 8, b'-', b'0', b'0', b'-', b'0', b'0', b'-', b'0')
-        & layout_words::eight_fit(s, 13, 0, 0, 0, b'0', b'-', b'0', b'0', 13)
+    layout_words::eight_fit(s, 0, *b"00-00-00")
+        & layout_words::eight_fit(s, 8, *b"-00-00-0")
+        & layout_words::eight_fit(s, 13, *b"???0-00\r")
 }
 
 // The error of a string that does not fit.

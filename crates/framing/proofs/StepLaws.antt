@@ -56,7 +56,7 @@ inside-mode count mode h = go (ltb 66 count) (ltb count 66) refl mode h
     go false false e Inside h = let z : _≡_ {A = ℕ} 0 1 = cc in absurd (omega arith)
     go false u e Overlong h = let z : _≡_ {A = ℕ} 0 1 = cc in absurd (omega arith)
 
--- where a byte is kept there is room for it
+-- if a byte is kept there is room for it
 pub inside-room : (count : ℕ) (mode : Mode) → effectiveMode count mode ≡ Inside → count < 66
 inside-room count mode h = inside-mode count mode h .1
 
@@ -146,7 +146,7 @@ still-outside f at b h = step-outside f b at (neither (eqb b 2) (eqb b 2) h .0)
 pub still-overlong : (bytes : List ℕ) (count : ℕ) → count ≤ 66 → Still (framerOf bytes count Overlong) 3
 still-overlong bytes count few b h = step-other _ b Overlong (mode-overlong count few) h
 
--- it is kept where there is room
+-- it is kept if there is room
 pub step-keeps : (bytes : List ℕ) (count b : ℕ) → count < 66 → eqb b 2 || eqb b 3 ≡ false
     → stepOf (framerOf bytes count Inside) b
     ≡ record { framer = framerOf (set bytes count b) (count + 1) Inside; event = Nothing }

@@ -84,7 +84,7 @@ by-steps f (b ∷ s) (suc limit) =
     (λ quiet. by-steps-on f b s limit quiet (by-steps (stepOf f b .framer) s limit))
     (by-steps-stop f b s limit)
 
--- no more is taken than there is, and something where there is something
+-- no more is taken than there is, and something if there is something
 pub feed-taken : (f : Framer) (s : List ℕ) (limit : ℕ) → (feedOf f (take limit s) .taken ≤ length s)
     × (0 < limit → 0 < length s → 0 < feedOf f (take limit s) .taken)
 feed-taken f s limit =

@@ -18,7 +18,7 @@ use Rattle.clock_time.specs.Lists.{slice}
 use Rattle.decimal.specs.Decimal.{isDigit, firstNonDigit}
 use Rattle.decimal.proofs.DecimalLaws.{value-below}
 use Rattle.layout.specs.Layout.{digit, flagOf, allowed, errorAt, offence, fitsFrom, first, found, FitsLayout}
-use Rattle.layout.specs.Layout.{number}
+use Rattle.layout.specs.Layout.{number, picturePlace, pictured}
 
 -- ---- one byte
 pub fixed-test : (p b : ℕ) → p < 256 → allowed p b ≡ eqb b p
@@ -53,6 +53,16 @@ module _ (l s : List ℕ) (i : ℕ) (h : length l ≤ i) where
   unfolding first
   first-end k = rw (drop-of-length-le l h)
 
+-- ---- a picture
+pub length-pictured : (l : List ℕ) → length (pictured l) ≡ length l
+length-pictured [] = refl
+length-pictured (p ∷ l) = ap suc (length-pictured l)
+
+pub place-pictured : (l : List ℕ) (i : ℕ) → i < length l → getD (pictured l) i 0 ≡ picturePlace (getD l i 0)
+place-pictured [] i h = absurd (omega arith)
+place-pictured (p ∷ l) zero h = refl
+place-pictured (p ∷ l) (suc i) h = place-pictured l i (omega arith)
+
 -- ---- a string that fits
 error-three : (p : ℕ) → (errorAt p ≡ 2) ⊎ ((errorAt p ≡ 3) ⊎ (errorAt p ≡ 4))
 unfolding errorAt
@@ -85,7 +95,7 @@ later : (t : Bool) (m n : ℕ) → suc m ≤ cond t 0 (suc n) → (t ≡ false) 
 later true m n h = absurd (omega arith)
 later false m n h = (refl, omega arith)
 
--- where no place has one of the three numbers, each has a byte that may stand there
+-- if no place has one of the three numbers, each has a byte that may stand there
 all-allowed : (l s : List ℕ) → length l ≡ length s → length l ≤ first 2 l s → length l ≤ first 3 l s
     → length l ≤ first 4 l s
     → (i : ℕ) → i < length l → allowed (getD l i 0) (getD s i 0) ≡ true

@@ -37,6 +37,30 @@ abbrev pub places : ℕ → ℕ → List ℕ
 places zero p = []
 places (suc k) p = p ∷ places k p
 
+-- a byte of a sample as a place: `0` stands for a digit, `?` for any byte, another for itself
+unfoldable pub samplePlace : ℕ → ℕ
+samplePlace p = cond (eqb p (code "0")) digit (cond (eqb p (code "?")) free p)
+
+-- a byte of a picture as a place: a letter by which the paper names a flag stands for the flag, in every picture the
+-- same; X and Y are x and y of the standard string, which have two letters each; another byte is that of a sample
+unfoldable pub picturePlace : ℕ → ℕ
+picturePlace p =
+    cond (eqb p (code "t")) (flag "U")
+    (cond (eqb p (code "u")) (flag "#")
+    (cond (eqb p (code "v")) (flag "*")
+    (cond (eqb p (code "x")) (flag "S")
+    (cond (eqb p (code "y")) (flag "!")
+    (cond (eqb p (code "z")) (flag "A")
+    (cond (eqb p (code "a")) (flag "R")
+    (cond (eqb p (code "b")) (flag "L")
+    (cond (eqb p (code "X")) (either "U" "S")
+    (cond (eqb p (code "Y")) (either "!" "A") (samplePlace p))))))))))
+
+-- the layout that a picture shows
+abbrev pub pictured : List ℕ → List ℕ
+pictured [] = []
+pictured (p ∷ ps) = picturePlace p ∷ pictured ps
+
 -- the byte b may stand at the place p
 unfoldable pub allowed : ℕ → ℕ → Bool
 allowed p b =
@@ -50,7 +74,7 @@ allowed p b =
 unfoldable pub errorAt : ℕ → ℕ
 errorAt p = cond (ltb p 256) 2 (cond (eqb p digit) 3 4)
 
--- the error number of the byte b at the place p, 0 where it may stand there
+-- the error number of the byte b at the place p, 0 if it may stand there
 unfoldable pub offence : ℕ → ℕ → ℕ
 offence p b = cond (allowed p b) 0 (errorAt p)
 
@@ -64,7 +88,7 @@ unfoldable pub fitsFrom : Bool → ℕ → List ℕ → List ℕ → Bool
 fitsFrom t i [] s = t
 fitsFrom t i (p ∷ l) s = fitsFrom (t && allowed p (getD s i 0)) (suc i) l s
 
--- the first place with the number k, the layout's length where there is none
+-- the first place with the number k, the layout's length if there is none
 unfoldable pub first : ℕ → List ℕ → List ℕ → ℕ
 first k [] s = 0
 first k (p ∷ l) [] = suc (length l)
@@ -74,7 +98,7 @@ first k (p ∷ l) (b ∷ s) = cond (eqb (offence p b) k) 0 (suc (first k l s))
 abbrev pub found : ℕ → List ℕ → List ℕ → Bool
 found k l s = ltb (first k l s) (length l)
 
--- "Order for text: 1, 2, 3, 4" (01, Refusal numbers): the number of a string that does not fit its layout; 4 where it
+-- "Order for text: 1, 2, 3, 4" (01, Refusal numbers): the number of a string that does not fit its layout; 4 if it
 -- fits, which no reader asks
 unfoldable pub layoutError : List ℕ → List ℕ → ℕ
 layoutError l s = cond (eqb (length l) (length s)) (cond (found 2 l s) 2 (cond (found 3 l s) 3 4)) 1

@@ -78,7 +78,7 @@ readText f s = checked (textChecks f s) (f .fields s)
 unfoldable pub writeText : {A : Type 0} → WrittenFormat A → A → List ℕ → Written
 writeText w a buffer = writeBack (readText (w .format)) (w .text) (w .same) a buffer
 
--- a letter where a flag is set, else a blank
+-- a letter if a flag is set, else a blank
 abbrev pub letter : Bool → Char → ℕ
 letter on c = cond on (code c) 32
 

@@ -7,10 +7,64 @@ ghost use mathlib.Core.Path.{_≡_};
 ghost use lib.ListN.{length};
 ghost use Rattle.clock_time.specs.Errors.{errorNumber, checked};
 ghost use Rattle.clock_time.specs.Reading.{readAnswer};
-ghost use Rattle.layout.specs.Layout.{allowed, errorAt, offence, first, layoutError};
+ghost use Rattle.layout.specs.Layout.{samplePlace, picturePlace, pictured, allowed, errorAt, offence, first};
+ghost use Rattle.layout.specs.Layout.{layoutError};
 ghost use Rattle.layout.specs.Text.{supportedDay, clockChecks, clockDigits};
 ghost use mathlib.Core.Bool.{cond, false};
 ghost use Rattle.calendar.specs.Date.{withWeekday};
+
+// The places of flags, by the letters that name them in a picture; X and Y have two letters each.
+const T: u32 = 512 + 85;
+
+const U: u32 = 512 + 35;
+
+const V: u32 = 512 + 42;
+
+const X: u32 = 512 + 83;
+
+const Y: u32 = 512 + 33;
+
+const Z: u32 = 512 + 65;
+
+const A: u32 = 512 + 82;
+
+const B: u32 = 512 + 76;
+
+const ZONE: u32 = 65536 + 256 * 85 + 83;
+
+const ANNOUNCED: u32 = 65536 + 256 * 33 + 65;
+
+// The place that a byte of a sample stands for: `0` for a digit, `?` for any byte, another for itself.
+fn sample_place(p: u8) -> u32
+    ensures { λ r. ⌜ r ≡ samplePlace p ⌝ }
+{
+    if p == b'0' {
+        return 256;
+    }
+    if p == b'?' {
+        return 257;
+    }
+    p as u32
+}
+
+// The place that a byte of a picture stands for: a flag's letter for the flag, another byte as in a sample.
+fn picture_place(p: u8) -> u32
+    ensures { λ r. ⌜ r ≡ picturePlace p ⌝ }
+{
+    match p {
+        b't' => T,
+        b'u' => U,
+        b'v' => V,
+        b'x' => X,
+        b'y' => Y,
+        b'z' => Z,
+        b'a' => A,
+        b'b' => B,
+        b'X' => ZONE,
+        b'Y' => ANNOUNCED,
+        _ => sample_place(p),
+    }
+}
 
 fn is_allowed(p: u32, b: u8) -> bool
     ensures { λ r. ⌜ r ≡ allowed p b ⌝ }
@@ -54,13 +108,13 @@ fn offence_at(p: u32, b: u8) -> u8
 }
 
 // The first place with the error number `k`, the length if there is none.
-fn first_offence(k: u8, layout: &[u32], s: &[u8]) -> usize
-    requires { ⌜ length (now layout) ≡ length (now s) ⌝ }
-    ensures { λ r. ⌜ r ≡ first k (now (layout .entry)) (now (s .entry)) ⌝ }
+fn first_offence(k: u8, picture: &[u8], s: &[u8]) -> usize
+    requires { ⌜ length (now picture) ≡ length (now s) ⌝ }
+    ensures { λ r. ⌜ r ≡ first k (pictured (now (picture .entry))) (now (s .entry)) ⌝ }
 {
     let mut i: usize = 0;
-    while i < layout.len() {
-        if offence_at(layout[i], s[i]) == k {
+    while i < picture.len() {
+        if offence_at(picture_place(picture[i]), s[i]) == k {
             return i;
         }
         i += 1;
@@ -68,18 +122,18 @@ fn first_offence(k: u8, layout: &[u32], s: &[u8]) -> usize
     i
 }
 
-// The error of a string that does not fit its layout: the first that holds of Length (1), FixedByte (2), NotDigit (3)
-// and FlagLetter (4).
-pub fn layout_error(layout: &[u32], s: &[u8]) -> Error
-    ensures { λ r. ⌜ errorNumber r ≡ layoutError (now (layout .entry)) (now (s .entry)) ⌝ }
+// The error of a string that does not fit the layout of a picture: the first that holds of Length (1), FixedByte (2),
+// NotDigit (3) and FlagLetter (4).
+pub fn layout_error(picture: &[u8], s: &[u8]) -> Error
+    ensures { λ r. ⌜ errorNumber r ≡ layoutError (pictured (now (picture .entry))) (now (s .entry)) ⌝ }
 {
-    if layout.len() != s.len() {
+    if picture.len() != s.len() {
         return Error::Length;
     }
-    if first_offence(2, layout, s) < layout.len() {
+    if first_offence(2, picture, s) < picture.len() {
         return Error::FixedByte;
     }
-    if first_offence(3, layout, s) < layout.len() {
+    if first_offence(3, picture, s) < picture.len() {
         return Error::NotDigit;
     }
     Error::FlagLetter

@@ -9,8 +9,8 @@ use lib.Bits.{bitAnd, bitOr, bitXor, and-zero-r, and-le-l, and-le-r, xor-add-and
 use borrow.Author.Tests.{eq-eqb, ne-eqb, eqb-true}
 use Rattle.clock_time.proofs.Tests.{below, below-at}
 use Rattle.decimal.specs.Decimal.{isDigit}
-use Rattle.layout.specs.Layout.{allowed}
-use Rattle.layout_words.specs.Words.{samplePlace, bySample}
+use Rattle.layout.specs.Layout.{samplePlace, allowed}
+use Rattle.layout_words.specs.Words.{bySample}
 use Rattle.layout.proofs.LayoutLaws.{fixed-test}
 
 -- two tests that agree on all bytes, by computation
@@ -55,9 +55,9 @@ zero-test = same-test (clear 256 127 128) (λ x. eqb x 0) tt
 pub sample-test : (p b : ℕ) → p < 256 → b < 256
     → clear 256 (moreOf p) (highOf p) (bitXor b p) ≡ allowed (samplePlace p) b
 unfolding bySample samplePlace allowed
-sample-test p b hp hb = go (eqb p 48) (eqb p 0) refl refl
+sample-test p b hp hb = go (eqb p 48) (eqb p 63) refl refl
   where
-    go : (t u : Bool) → eqb p 48 ≡ t → eqb p 0 ≡ u
+    go : (t u : Bool) → eqb p 48 ≡ t → eqb p 63 ≡ u
         → clear 256 (moreOf p) (highOf p) (bitXor b p) ≡ allowed (samplePlace p) b
     go true u q r = rw (q, eqb-true p 48 q) (digit-test b hb)
     go false true q r = rw (q, r)
@@ -68,7 +68,7 @@ sample-test p b hp hb = go (eqb p 48) (eqb p 0) refl refl
 -- what holds of the numbers for a digit, for any byte and for a fixed one
 each-rule : (P : ℕ → ℕ → Type 0) → P 118 128 → P 0 0 → P 127 128 → (p : ℕ) → P (moreOf p) (highOf p)
 unfolding bySample
-each-rule P forDigit forAny forFixed p = go (eqb p 48) (eqb p 0)
+each-rule P forDigit forAny forFixed p = go (eqb p 48) (eqb p 63)
   where
     go : (t u : Bool) → P (cond t 118 (cond u 0 127)) (cond t 128 (cond u 0 128))
     go true u = forDigit

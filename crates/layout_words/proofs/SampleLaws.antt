@@ -10,8 +10,8 @@ use lib.Bits.{bitAnd, bitOr, bitXor, or-block, or-lt, xor-block, xor-lt}
 use lib.Dec.{eqb, lit<}
 use lib.ListN.{length, getD}
 use Rattle.clock_time.specs.Lists.{slice}
-use Rattle.layout.specs.Layout.{allowed, fitsFrom}
-use Rattle.layout_words.specs.Words.{word, eachBySample, samplePlace, samplePlaces}
+use Rattle.layout.specs.Layout.{samplePlace, allowed, fitsFrom}
+use Rattle.layout_words.specs.Words.{word, eachBySample, samplePlaces}
 use Rattle.layout_words.proofs.ByteLaws.{moreOf, highOf, clear, sample-test, high-small, no-carry}
 use Rattle.layout.proofs.PartLaws.{fits-and}
 use Rattle.bits.proofs.ByteLaws.{zero-block}

@@ -1,10 +1,11 @@
 -- Eight bytes at once: a sample or flags that they fit, and the numbers of three pairs of digits.
 use Prim.Native.Nat.{ℕ, zero, suc, _+_, _*_, _/_, _%_}
+use Prim.Native.Char.{code}
 use mathlib.Core.Bool.{Bool, true, cond}
 use mathlib.Core.List.{List, [], _∷_}
 use lib.Dec.{leb, eqb}
 use lib.ListN.{length, getD}
-use Rattle.layout.specs.Layout.{digit, free, flagOf, fitsFrom}
+use Rattle.layout.specs.Layout.{samplePlace, flagOf, fitsFrom}
 use Rattle.layout_words.specs.declared.ThreeNumbers.{ThreeNumbers}
 
 -- the number whose digits to the base 256 are these bytes, the lowest first
@@ -15,10 +16,6 @@ word (b ∷ s) = word s * 256 + b
 -- the string, if it has eight bytes from a place on, else no bytes at all
 unfoldable pub enough : ℕ → List ℕ → List ℕ
 enough at s = cond (leb (at + 8) (length s)) s []
-
--- a byte of a sample as a place of a layout: `0` stands for a digit, 0 for any byte, another for itself
-unfoldable pub samplePlace : ℕ → ℕ
-samplePlace p = cond (eqb p 48) digit (cond (eqb p 0) free p)
 
 -- the places of a sample's bytes
 abbrev pub samplePlaces : List ℕ → List ℕ
@@ -31,7 +28,7 @@ sampleFits at sample s = fitsFrom true at (samplePlaces sample) (enough at s)
 
 -- a number for a byte of a sample: for a digit, for any byte, or for a byte that stands for itself
 unfoldable pub bySample : ℕ → ℕ → ℕ → ℕ → ℕ
-bySample forDigit forAny forFixed p = cond (eqb p 48) forDigit (cond (eqb p 0) forAny forFixed)
+bySample forDigit forAny forFixed p = cond (eqb p (code "0")) forDigit (cond (eqb p (code "?")) forAny forFixed)
 
 -- such a number for each of a sample's bytes
 abbrev pub eachBySample : ℕ → ℕ → ℕ → List ℕ → List ℕ
@@ -61,6 +58,6 @@ lowPair at s = 10 * (getD s at 0 % 16) + getD s (suc at) 0 % 16
 unfoldable pub threeNumbers : ℕ → List ℕ → ThreeNumbers
 threeNumbers at s = record { first = lowPair at s; second = lowPair (at + 3) s; third = lowPair (at + 6) s }
 
--- the same from a place on, 0 where there are no eight bytes
+-- the same from a place on, 0 if there are no eight bytes
 unfoldable pub numbersAt : ℕ → List ℕ → ThreeNumbers
 numbersAt at s = threeNumbers at (enough at s)

@@ -43,10 +43,10 @@ fn word_at(s: &[u8], at: usize) -> u64
 fn by_sample(p: u8, digit: u8, any: u8, fixed: u8) -> u8
     ensures { λ r. ⌜ r ≡ bySample digit any fixed p ⌝ }
 {
-    if p == 48 {
+    if p == b'0' {
         return digit;
     }
-    if p == 0 {
+    if p == b'?' {
         return any;
     }
     fixed
@@ -80,21 +80,9 @@ fn join_by_sample(
     )
 }
 
-// Whether the eight bytes from a place on are as a sample says: `0` for a digit, 0 for any byte, any other byte for
-// itself. A byte's difference from the sample, bit by bit, is at most 9 at a digit and 0 at a fixed byte: a greater one
-// has the high bit, or gets it when 118 or 127 is added.
-pub fn eight_fit(
-    s: &[u8],
-    at: usize,
-    a: u8,
-    b: u8,
-    c: u8,
-    d: u8,
-    e: u8,
-    f: u8,
-    g: u8,
-    h: u8,
-) -> bool
+// `eight_fit`, a byte of the sample each. A byte's difference from the sample, bit by bit, is at most 9 at a digit and 0
+// at a fixed byte: a greater one has the high bit, or gets it when 118 or 127 is added.
+fn each_fits(s: &[u8], at: usize, a: u8, b: u8, c: u8, d: u8, e: u8, f: u8, g: u8, h: u8) -> bool
     ensures { λ r. ⌜ r ≡ sampleFits at (a ∷ b ∷ c ∷ d ∷ e ∷ f ∷ g ∷ h ∷ []) (now (s .entry)) ⌝ }
 {
     let bytes = word_at(s, at);
@@ -103,6 +91,24 @@ pub fn eight_fit(
     let high = join_by_sample(a, b, c, d, e, f, g, h, 128, 0, 128);
     let difference = bytes ^ sample;
     (difference | std::num::wrapping_add_u64(difference, more)) & high == 0
+}
+
+// Whether the eight bytes from a place on are as a sample says: `0` for a digit, `?` for any byte, another for itself.
+pub fn eight_fit(s: &[u8], at: usize, sample: [u8; 8]) -> bool
+    ensures { λ r. ⌜ r ≡ sampleFits at sample (now (s .entry)) ⌝ }
+{
+    each_fits(
+        s,
+        at,
+        sample[0],
+        sample[1],
+        sample[2],
+        sample[3],
+        sample[4],
+        sample[5],
+        sample[6],
+        sample[7],
+    )
 }
 
 // The high bit of each byte that is not 0: 127 added to the seven low bits sets it, or it is set already.
@@ -114,9 +120,9 @@ fn nonzero(w: u64) -> u64
     (((w & low) + low) | w) & high
 }
 
-// Whether each of the seven bytes from a place on is its letter or a blank, and the eighth is the last byte: then no
-// byte differs from both. No byte is tested by itself, since a branch on a flag can't be predicted.
-pub fn flags_fit(
+// `flags_fit`, a letter each: no byte differs both from a blank and from its letter. No byte is tested by itself, since
+// a branch on a flag can't be predicted.
+fn each_flag_fits(
     s: &[u8],
     at: usize,
     a: u8,
@@ -134,6 +140,24 @@ pub fn flags_fit(
     let from_blanks = bytes ^ join(32, 32, 32, 32, 32, 32, 32, last);
     let from_letters = bytes ^ join(a, b, c, d, e, f, g, last);
     nonzero(from_blanks) & nonzero(from_letters) == 0
+}
+
+// Whether each of the seven bytes from a place on is its letter or a blank, and the eighth is the last byte.
+pub fn flags_fit(s: &[u8], at: usize, letters: [u8; 7], last: u8) -> bool
+    ensures { λ r. ⌜ r ≡ flagsFit at letters last (now (s .entry)) ⌝ }
+{
+    each_flag_fits(
+        s,
+        at,
+        letters[0],
+        letters[1],
+        letters[2],
+        letters[3],
+        letters[4],
+        letters[5],
+        letters[6],
+        last,
+    )
 }
 
 // The numbers of three pairs of digits from a place on, each with a byte after it; 0 if there are no eight bytes.

@@ -46,7 +46,7 @@ turns l g s i r q e part =
           ∙ ap (after l) (sym (take-add i (r .taken) s));
     }
 
--- the first i bytes of s are a part of it, and are all of it where writing went on
+-- the first i bytes of s are a part of it, and are all of it if writing went on
 pub lists-first : (l : Listing) (s : List ℕ) (i : ℕ) (r : State) → r .listing ≡ after l (take i s)
     → (r .«is_open» ≡ true → length s ≤ i) → Lists l s r
 lists-first l s i r e all =

@@ -13,7 +13,7 @@ use Rattle.list_times.specs.declared.State.{State}
 abbrev pub StartsWith : List ℕ → ℕ → List ℕ → Type 0
 StartsWith buffer n text = (n ≤ length buffer) × (take n buffer ≡ text)
 
--- of the bytes s some are taken where there are any, and the listing is the one after them
+-- of the bytes s some are taken if there are any, and the listing is the one after them
 pub record Takes (l : Listing) (s : List ℕ) (r : Part) : Type 0 where
   pub within : r .taken ≤ length s
   pub some : 0 < length s → 0 < r .taken

@@ -27,7 +27,7 @@ text-append l (b ∷ s) t =
     ap (λ (x : List ℕ). itemLine (itemAt l b) ++ x) (text-append (stepListing l b) s t)
     ∙ sym (append-assoc (itemLine (itemAt l b)) (textOf (stepListing l b) s) (textOf (after (stepListing l b) s) t))
 
--- where there is no room for any line, nothing is taken
+-- if there is no room for any line, nothing is taken
 pub taken-full : (l : Listing) (s : List ℕ) (room : ℕ) → room < 35 → takenOf l s room ≡ 0
 unfolding takenOf
 taken-full l [] room h = refl
@@ -37,7 +37,7 @@ pub taken-end : (l : Listing) (room : ℕ) → takenOf l [] room ≡ 0
 unfolding takenOf
 taken-end l room = refl
 
--- a byte, where there is room for any line
+-- a byte, if there is room for any line
 pub taken-on : (l : Listing) (b : ℕ) (s : List ℕ) (room : ℕ) → 35 ≤ room
     → takenOf l (b ∷ s) room ≡ suc (takenOf (stepListing l b) s (room - length (itemLine (itemAt l b))))
 unfolding takenOf

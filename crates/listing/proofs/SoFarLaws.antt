@@ -130,7 +130,7 @@ module _
         → listedInto (record { listing = now; taken = i; length = at }) out ≡ listOf l s buffer
     so-far-end h = so-far-taken (rw (drop-of-length-le s h) (taken-end now (length buffer - at)))
 
-    -- or where there is no room for any line
+    -- or if there is no room for any line
     pub so-far-full : length out - at < 35
         → listedInto (record { listing = now; taken = i; length = at }) out ≡ listOf l s buffer
     so-far-full h = so-far-taken (taken-full now (drop i s) (length buffer - at) (omega (arith, w .same)))

@@ -44,12 +44,12 @@ module _ (l : Listing) (s buffer : List ℕ) where
   unfolding listOf
   list-fits = text-fits l s (length buffer)
 
-  -- with room for any line it takes something where there is something
+  -- with room for any line it takes something if there is something
   pub list-takes-some : 35 ≤ length buffer → 0 < length s → 0 < listOf l s buffer .taken
   unfolding listOf
   list-takes-some = taken-some l s (length buffer)
 
-  -- and everything where a line more than the text would fit
+  -- and everything if a line more than the text would fit
   pub list-takes-all : length (textOf l s) + 35 ≤ length buffer → listOf l s buffer .taken ≡ length s
   unfolding listOf
   list-takes-all = taken-all l s (length buffer)

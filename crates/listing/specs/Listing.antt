@@ -35,7 +35,7 @@ unfoldable pub textOf : Listing → List ℕ → List ℕ
 textOf l [] = []
 textOf l (b ∷ s) = itemLine (itemAt l b) ++ textOf (stepListing l b) s
 
--- how many bytes are taken where the text has so much room: as long as there is room for any line
+-- how many bytes are taken if the text has so much room: as long as there is room for any line
 unfoldable pub takenOf : Listing → List ℕ → ℕ → ℕ
 takenOf l [] room = 0
 takenOf l (b ∷ s) room =

@@ -7,7 +7,7 @@ use Rattle.listing.specs.Listing.{after, textOf, takenOf}
 use Rattle.listing.specs.declared.Listing.{Listing}
 use Rattle.listing.specs.declared.LineResult.{LineResult}
 
--- of s some bytes are taken where there are any; the line is their text, the state that after them, and where there is
+-- of s some bytes are taken if there are any; the line is their text, the state that after them, and if there is
 -- room for any line the listing takes them and goes on from there
 pub record ListsNext (l : Listing) (s : List ℕ) (r : LineResult) : Type 0 where
   pub within : r .taken ≤ length s

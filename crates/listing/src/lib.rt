@@ -39,7 +39,7 @@ fn put_line(out: &mut [u8], at: usize, line: Line)
 {
     let text = line.text;
     let n = line.length;
-    clock_time::write_bytes(true, &text[..n], &mut out[at..]);
+    bytes::copy(&text[..n], &mut out[at..]);
 }
 
 // Takes the bytes of s up to the first that ends a string.

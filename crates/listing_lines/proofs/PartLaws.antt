@@ -3,24 +3,19 @@ use Prim.Native.Nat.{ℕ, _+_, _-_, _≤_}
 use native.Mathlib.Omega.{arith}
 use native.Mathlib.Nat.{le-refl}
 use mathlib.Core.Path.{_≡_, sym, ap, _∙_}
-use mathlib.Core.Bool.{true}
 use mathlib.Core.List.{List, [], _++_, append-nil, append-assoc}
 use lib.ListN.{length, take, drop, length-drop, drop-of-length-le}
 use lib.Seq.{drop-drop, take-all, take-length, take-take, length-take-le, paste}
-use Rattle.clock_time.specs.Writing.{Written, writing}
-use Rattle.clock_time.proofs.WritingLaws.{writing-room}
 
 module _ (s d : List ℕ) (at : ℕ) (room : at + length s ≤ length d) where
   part : take (length d - at) (drop at d) ≡ drop at d
   part = take-all (length d - at) (drop at d) (omega (arith, length-drop at d))
 
-  -- all of s written to the front of `&mut d[at..]`, which comes back as `x`
-  pub written-part : (x : Written) → x ≡ writing true s (take (length d - at) (drop at d))
-      → take at d ++ (x .memory ++ drop (length d - at) (drop at d)) ≡ paste d at s (length s)
-  written-part x e =
-      let fits : length s ≤ length (drop at d) = omega (arith, length-drop at d) in
-      let memory : x .memory ≡ s ++ drop (length s) (drop at d) =
-      ap (λ (o : Written). o .memory) (rw part at e ∙ sym (writing-room s (drop at d) fits)) in
+  -- all of s copied to the front of `&mut d[at..]`, which comes back as `x`
+  pub copied-part : (x : List ℕ) → x ≡ take (length s) s ++ drop (length s) (take (length d - at) (drop at d))
+      → take at d ++ (x ++ drop (length d - at) (drop at d)) ≡ paste d at s (length s)
+  copied-part x e =
+      let memory : x ≡ s ++ drop (length s) (drop at d) = e ∙ rw (part, take-length s) in
       let past : drop (length d - at) (drop at d) ≡ [] =
       let h : length (drop at d) ≤ length d - at = omega (arith, length-drop at d) in drop-of-length-le (drop at d) h in
       rw (memory, past, append-nil, drop-drop, take-length) (sym (append-assoc (take at d) s (drop (at + length s) d)))

@@ -11,7 +11,7 @@ use Rattle.clock_time.specs.Lists.{ascii}
 use Rattle.calendar.specs.UnixTime.{isReading}
 use Rattle.decimal.specs.Decimal.{digits}
 
--- a letter where a flag is set, else a dash
+-- a letter if a flag is set, else a dash
 abbrev pub letterOrDash : Bool → Char → ℕ
 letterOrDash on c = cond on (code c) (code "-")
 

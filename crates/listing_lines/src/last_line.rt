@@ -42,7 +42,7 @@ fn put(out: &mut [u8], at: usize, s: &[u8])
     requires { ⌜ at + length (now s) ≤ length (now out) ⌝ }
     ensures { λ _. ⌜ now (out .exit) ≡ paste (now (out .entry)) at (now (s .entry)) (length (now (s .entry))) ⌝ }
 {
-    clock_time::write_bytes(true, s, &mut out[at..]);
+    bytes::copy(s, &mut out[at..]);
 }
 
 // Puts s into `out` from `at` on, and returns where it ends.

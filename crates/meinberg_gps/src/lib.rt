@@ -11,7 +11,6 @@ ghost use Rattle.meinberg_gps.specs.Gps.{gpsLayout, leapMismatch, clockO
 
 mod offset;
 mod places;
-mod table;
 
 // What a GPS string says: a clock time and the clock's position.
 pub struct GpsTime {
@@ -94,10 +93,10 @@ pub fn read_gps(s: &[u8]) -> GpsAnswer
     ensures { λ r. ⌜ gpsAnswer r ≡ readGps (now (s .entry)) ⌝ }
 {
     if s.len() != 66 {
-        return GpsAnswer::Refused(table::first_error(&s[..]));
+        return GpsAnswer::Refused(places::first_error(&s[..]));
     }
     if places::fits(s) {
         return read_fitting(s);
     }
-    GpsAnswer::Refused(table::first_error(&s[..]))
+    GpsAnswer::Refused(places::first_error(&s[..]))
 }

@@ -24,7 +24,7 @@ aligned-digit : (n b k : ℕ) → 48 ≤ b → b ≤ 57 → aligned (suc k) (10 
 unfolding aligned
 aligned-digit n b k lo hi = let d = next n b lo hi in rw (d .before, d .here)
 
--- before the last, where the number up to it is not 0
+-- before the last, if the number up to it is not 0
 padded-digit : (n b k : ℕ) (s : List ℕ) → 48 ≤ b → b ≤ 57 → 0 < 10 * n + (b - 48)
     → padded (suc k) (10 * n + (b - 48)) ++ s ≡ padded k n ++ (b ∷ s)
 unfolding padded blankOr

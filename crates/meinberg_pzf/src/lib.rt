@@ -10,67 +10,18 @@ ghost use Rattle.clock_time.specs.Reading.{readAnswer};
 ghost use Rattle.layout.specs.Layout.{FitsLayout, fitsFrom, layoutError};
 ghost use Rattle.meinberg_pzf.specs.Pzf.{pzfLayout, pzfOffset, pzfFields, readPzf};
 
-// The layout, as the definition `pzfLayout` has it.
-const D: u32 = 256;
-
-const T: u32 = 512 + 85;
-
-const U: u32 = 512 + 35;
-
-const V: u32 = 512 + 42;
-
-const X: u32 = 512 + 83;
-
-const Y: u32 = 512 + 33;
-
-const Z: u32 = 512 + 65;
-
-const A: u32 = 512 + 82;
-
-const PZF: [u32; 32] = [
-    2,
-    D,
-    D,
-    46,
-    D,
-    D,
-    46,
-    D,
-    D,
-    59,
-    32,
-    D,
-    59,
-    32,
-    D,
-    D,
-    58,
-    D,
-    D,
-    58,
-    D,
-    D,
-    59,
-    32,
-    T,
-    U,
-    V,
-    X,
-    Y,
-    Z,
-    A,
-    3,
-];
+// The layout in a picture, as the definition `pzfLayout` has it.
+const PZF: [u8; 32] = *b"\x0200.00.00; 0; 00:00:00; tuvxyza\x03";
 
 // Whether every place has a byte that may stand there.
 fn fits(s: &[u8]) -> bool
     requires { ⌜ length (now s) ≡ 32 ⌝ }
     ensures { λ r. ⌜ r ≡ fitsFrom true 0 pzfLayout (now (s .entry)) ⌝ }
 {
-    layout_words::eight_fit(s, 0, 2, b'0', b'0', b'.', b'0', b'0', b'.', b'0')
-        & layout_words::eight_fit(s, 8, b'0', b';', b' ', b'0', b';', b' ', b'0', b'0')
-        & layout_words::eight_fit(s, 16, b':', b'0', b'0', b':', b'0', b'0', b';', b' ')
-        & layout_words::flags_fit(s, 24, b'U', b'#', b'*', b'S', b'!', b'A', b'R', 3)
+    layout_words::eight_fit(s, 0, *b"\x0200.00.0")
+        & layout_words::eight_fit(s, 8, *b"0; 0; 00")
+        & layout_words::eight_fit(s, 16, *b":00:00; ")
+        & layout_words::flags_fit(s, 24, *b"U#*S!AR", 3)
 }
 
 // The error of a string that does not fit.

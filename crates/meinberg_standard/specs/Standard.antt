@@ -55,7 +55,7 @@ standardFields s =
 unfoldable pub zoneLetter : ℤ → Bool → ℕ
 zoneLetter offset summer = cond summer (code "S") (cond (eqℤ offset (pos 0)) (code "U") 32)
 
--- the only letter of what is announced that could be read as these two flags; `!` where both are, which no letter says
+-- the only letter of what is announced that could be read as these two flags; `!` if both are, which no letter says
 unfoldable pub announcedLetter : Bool → Bool → ℕ
 announcedLetter change leap = cond change (code "!") (letter leap "A")
 

@@ -10,60 +10,17 @@ ghost use Rattle.clock_time.specs.Reading.{readAnswer};
 ghost use Rattle.layout.specs.Layout.{FitsLayout, fitsFrom, layoutError};
 ghost use Rattle.meinberg_standard.specs.Standard.{standardLayout, standardZone, standardFields, readStandard};
 
-// The layout, as the definition `standardLayout` has it.
-const D: u32 = 256;
-
-const U: u32 = 512 + 35;
-
-const V: u32 = 512 + 42;
-
-const X: u32 = 65536 + 256 * 85 + 83;
-
-const Y: u32 = 65536 + 256 * 33 + 65;
-
-const STANDARD: [u32; 32] = [
-    2,
-    68,
-    58,
-    D,
-    D,
-    46,
-    D,
-    D,
-    46,
-    D,
-    D,
-    59,
-    84,
-    58,
-    D,
-    59,
-    85,
-    58,
-    D,
-    D,
-    46,
-    D,
-    D,
-    46,
-    D,
-    D,
-    59,
-    U,
-    V,
-    X,
-    Y,
-    3,
-];
+// The layout in a picture, as the definition `standardLayout` has it.
+const STANDARD: [u8; 32] = *b"\x02D:00.00.00;T:0;U:00.00.00;uvXY\x03";
 
 // Whether every place has a byte that may stand there.
 fn fits(s: &[u8]) -> bool
     requires { ⌜ length (now s) ≡ 32 ⌝ }
     ensures { λ r. ⌜ r ≡ fitsFrom true 0 standardLayout (now (s .entry)) ⌝ }
 {
-    layout_words::eight_fit(s, 0, 2, b'D', b':', b'0', b'0', b'.', b'0', b'0')
-        & layout_words::eight_fit(s, 8, b'.', b'0', b'0', b';', b'T', b':', b'0', b';')
-        & layout_words::eight_fit(s, 16, b'U', b':', b'0', b'0', b'.', b'0', b'0', b'.')
+    layout_words::eight_fit(s, 0, *b"\x02D:00.00")
+        & layout_words::eight_fit(s, 8, *b".00;T:0;")
+        & layout_words::eight_fit(s, 16, *b"U:00.00.")
         & ((48 <= s[24]) & (s[24] <= 57))
         & ((48 <= s[25]) & (s[25] <= 57))
         & (s[26] == b';')

@@ -1,4 +1,4 @@
--- Demand 3 holds of what is left and counted where every check is passed, and so of what is accepted.
+-- Demand 3 holds of what is left and counted if every check is passed, and so of what is accepted.
 use Prim.Native.Nat.{ℕ, _<_}
 use native.Mathlib.Omega.{arith}
 use mathlib.Core.Path.{_≡_, refl, sym, ap, _∙_}

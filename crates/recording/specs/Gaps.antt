@@ -41,7 +41,7 @@ pub record NearestGapBefore (marks : List ℕ) (place gap : ℕ) : Type 0 where
   pub mark : getD marks gap 0 ≡ 2
   pub nearest : (i : ℕ) → gap < i → i < place → getD marks i 0 ≡ 2 → ⊥
 
--- the place that the code's answer names, where it names one
+-- the place that the code's answer names, if it names one
 abbrev pub gapOf : Gap → Option ℕ
 gapOf Nothing = none
 gapOf (At gap) = some gap

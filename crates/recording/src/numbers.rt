@@ -50,7 +50,7 @@ pub(crate) fn number_at(marks: &[u8], place: usize) -> u32
     if marks[place] != 2 {
         return 0;
     }
-    number_given_gap(marks, place, gaps::gap_before(marks, place))
+    number_at_gap(marks, place, gaps::gap_before(marks, place))
 }
 
 // Puts every place's number into outcomes, in one pass: the last gap seen is kept, and not looked for again.

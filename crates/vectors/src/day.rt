@@ -1,5 +1,5 @@
 // A recording that is made with the minute writer: whole minutes from the one that announces 8 November 2006 00:00 on,
-// a gap after each, and unsure marks where no further minute fits. The first 86,400 marks are a day.
+// a gap after each, and unsure marks if no further minute fits. The first 86,400 marks are a day.
 use c_readings::minutes::radio_clock_write_minute;
 
 pub type Recording = [u8; 100001];
@@ -38,7 +38,7 @@ fn minute_at(i: u32) -> [i32; 16] {
     ]
 }
 
-// Writes a minute from `at` on, and returns how many marks it has; none where it has no room.
+// Writes a minute from `at` on, and returns how many marks it has; none if it has no room.
 fn write_at(m: &mut [u8], at: usize, fields: &[i32]) -> usize {
     let mut count = 0;
     if at < m.len() {
@@ -47,7 +47,7 @@ fn write_at(m: &mut [u8], at: usize, fields: &[i32]) -> usize {
     count
 }
 
-// Puts a minute and a gap, and returns the place after them; nothing where the minute has no room.
+// Puts a minute and a gap, and returns the place after them; nothing if the minute has no room.
 fn put_minute(m: &mut Recording, at: usize, i: u32) -> usize {
     let fields = minute_at(i);
     let count = write_at(m, at, &fields);

@@ -1,13 +1,14 @@
 // The commands on runs of digits: `digits` reads one, `number` writes one into a lent buffer.
+use crate::digit_run;
+use crate::digit_run::DigitsRead;
 use crate::numbers;
 use crate::numbers::Numbers;
 use crate::text::Text;
 use clock_time::WriteAnswer;
-use decimal::DigitsRead;
 
 // The number that the digits s are. A byte that is no digit is refused with 3, and 100 more for each place before it.
 pub fn read(s: &[u8]) -> u64 {
-    match decimal::read_digits(s) {
+    match digit_run::read_digits(s) {
         DigitsRead::Number(number) => number,
         DigitsRead::NotDigit(place) => numbers::REFUSED + 3 + 100 * (place % 256) as u64,
         DigitsRead::TooLong => numbers::REFUSED + 1,
@@ -21,12 +22,12 @@ fn count_written(answer: WriteAnswer) -> u64 {
     }
 }
 
-// Writes into the first `room` bytes of the space; none where it has fewer.
+// Writes into the first `room` bytes of the space; none if it has fewer.
 fn write_in(number: u64, count: usize, space: &mut [u8], room: usize) -> u64 {
     if space.len() < room {
         return 0;
     }
-    count_written(decimal::write_digits(number, count, &mut space[0..room]))
+    count_written(digit_run::write_digits(number, count, &mut space[0..room]))
 }
 
 // Writes the first number with as many digits as the second says, in as much room as the third says.

@@ -4,6 +4,7 @@
 mod commands;
 mod dates;
 mod day;
+mod digit_run;
 mod digits;
 mod numbers;
 mod output;
@@ -53,7 +54,7 @@ fn put_written(word: u64, v: &Numbers) {
     output::put_text(&space, numbers::last(v), commands::base_of(word, v));
 }
 
-// Puts the answer to a line, a question mark where it is no command; `write` takes any numbers.
+// Puts the answer to a line, a question mark if it is no command; `write` takes any numbers.
 fn put_answer(line: &[u8]) {
     let colon = text::place_of(line, 0, b':');
     let head = text::first(line, colon);

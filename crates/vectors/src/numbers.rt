@@ -1,7 +1,8 @@
 // Lists of numbers: those of a command, and those of its answer. A number is 64 bits, below zero the two's complement;
 // from 10 ^ 19 on it is a refusal. Place 0 has how many they are.
+use crate::digit_run;
+use crate::digit_run::DigitsRead;
 use crate::text;
-use decimal::DigitsRead;
 
 pub type Numbers = [u64; 24];
 
@@ -20,7 +21,7 @@ fn unsigned(s: &[u8]) -> u64 {
     if s.len() == 0 {
         return REFUSED;
     }
-    match decimal::read_digits(s) {
+    match digit_run::read_digits(s) {
         DigitsRead::Number(n) => n,
         DigitsRead::NotDigit(_) => REFUSED,
         DigitsRead::TooLong => REFUSED,
@@ -37,7 +38,7 @@ fn number(s: &[u8]) -> u64 {
     unsigned(s)
 }
 
-// Adds a number, where there is a place.
+// Adds a number, if there is a place.
 pub fn add(v: &mut Numbers, value: u64) {
     let count = v[0];
     if count < 23 {
@@ -56,7 +57,7 @@ pub fn read_all(s: &[u8], start: usize, v: &mut Numbers) {
     }
 }
 
-// The number at a place; 0 where there is no such place.
+// The number at a place; 0 if there is no such place.
 fn at(v: &Numbers, i: u64) -> u64 {
     if i < 24 {
         return v[i as usize];
@@ -64,7 +65,7 @@ fn at(v: &Numbers, i: u64) -> u64 {
     0
 }
 
-// The last number, or 0 where there is none.
+// The last number, or 0 if there is none.
 pub fn last(v: &Numbers) -> usize {
     at(v, v[0]) as usize
 }
@@ -80,7 +81,7 @@ fn is_of(digit: u64, value: u64) -> bool {
     }
 }
 
-// True where there is a number for each digit of `types`, and it is of that type.
+// True if there is a number for each digit of `types`, and it is of that type.
 pub fn are_of(v: &Numbers, types: u64) -> bool {
     let mut all = true;
     let mut rest = types;

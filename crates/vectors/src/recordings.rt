@@ -1,7 +1,7 @@
 // The commands on recordings. The numbers start with the length of the recording and that of its sheet; the text has a
-// digit for each mark and, where it is empty, the marks are those of the module `day`. `at` has a place as its second
-// number, and gives the number there; `fill` makes the sheet; `correct` puts at a place a mark where the sheet is
-// right, `mend` where a number was put at a place of it, and `unfit` where it holds 7 everywhere.
+// digit for each mark and, if it is empty, the marks are those of the module `day`. `at` has a place as its second
+// number, and gives the number there; `fill` makes the sheet; `correct` puts a mark at a place with a sheet that is
+// right, `mend` with one that had a number put at a place of it, and `unfit` with one that holds 7 everywhere.
 use crate::commands;
 use crate::day;
 use crate::day::Recording;
@@ -56,7 +56,7 @@ fn fill(v: &Numbers, m: &Recording, o: &mut Outcomes) -> u8 {
     fill_first(text::first(m, v[1] as usize), o, v[2] as usize)
 }
 
-// Corrects the first `length` marks and the first `count` outcomes; 0 changes where they are fewer.
+// Corrects the first `length` marks and the first `count` outcomes; 0 changes if they are fewer.
 fn correct_first(
     m: &mut [u8],
     length: usize,
@@ -105,7 +105,7 @@ fn put_number(o: &mut Outcomes, at: usize, number: u64) {
     }
 }
 
-// Puts the marks of a text or, where it is empty, of the day.
+// Puts the marks of a text or, if it is empty, of the day.
 fn load(s: &[u8], m: &mut Recording) {
     if s.len() == 0 {
         day::make(m);

@@ -1,5 +1,5 @@
 // The commands on readings, as the C API has them: a kind is its number there, and 4 for a DCF77 minute, whose text
-// has a digit for each mark. `read` reads a text, and adds 1 where it is written back the same; `kind` tells the kind
+// has a digit for each mark. `read` reads a text, and adds 1 if it is written back the same; `kind` tells the kind
 // first; `write` writes numbers into a lent buffer; `unix` gives the Unix time of numbers.
 use crate::numbers;
 use crate::numbers::Numbers;
@@ -23,7 +23,7 @@ fn count_of(kind: u8) -> usize {
     }
 }
 
-// The first n numbers, or all where they are fewer.
+// The first n numbers, or all if they are fewer.
 fn first(fields: &[i32], n: usize) -> &[i32] {
     if fields.len() < n {
         return fields;
@@ -45,7 +45,7 @@ fn write_kind(kind: u8, fields: &[i32], space: &mut [u8], count: &mut usize) -> 
     radio_clock_write(kind, fields, space, count)
 }
 
-// True where the numbers are written as s.
+// True if the numbers are written as s.
 fn are_written_as(kind: u8, fields: &[i32], s: &[u8]) -> bool {
     let mut space = [0u8; 66];
     let mut count = 0;
@@ -76,7 +76,7 @@ pub fn add_kind(s: &[u8], a: &mut Numbers) {
     }
 }
 
-// Writes into the first `room` bytes of the space; none where it has fewer.
+// Writes into the first `room` bytes of the space; none if it has fewer.
 fn write_in(kind: u8, fields: &[i32], space: &mut [u8], room: usize) -> u64 {
     if space.len() < room {
         return 0;

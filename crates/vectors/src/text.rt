@@ -6,7 +6,7 @@ ghost use lib.ListN.{length};
 // The bytes of a text, or of a lent buffer: no line has more.
 pub type Text = [u8; 256];
 
-// The place of the first such byte from `at` on, or the end; `at` itself where that is past the end.
+// The place of the first such byte from `at` on, or the end; `at` itself if that is past the end.
 pub fn place_of(s: &[u8], at: usize, byte: u8) -> usize
     ensures { λ r. ⌜ (at ≤ r) × (r ≤ max at (length (now (s .entry)))) ⌝ }
 {
@@ -20,7 +20,7 @@ pub fn place_of(s: &[u8], at: usize, byte: u8) -> usize
     i
 }
 
-// The first n bytes of s, or all where they are fewer.
+// The first n bytes of s, or all if they are fewer.
 pub fn first(s: &[u8], n: usize) -> &[u8] {
     if s.len() < n {
         return s;
@@ -33,7 +33,7 @@ pub fn start(space: &Text, n: usize) -> &[u8] {
     first(space, n)
 }
 
-// The bytes of s from two after `at` on, or none where they are fewer.
+// The bytes of s from two after `at` on, or none if they are fewer.
 pub fn after(s: &[u8], at: usize) -> &[u8] {
     if at < s.len() {
         if 2 <= s.len() - at {
@@ -43,7 +43,7 @@ pub fn after(s: &[u8], at: usize) -> &[u8] {
     &s[0..0]
 }
 
-// The byte at a place; 0 where there is no such place.
+// The byte at a place; 0 if there is no such place.
 pub fn byte_at(s: &[u8], i: usize) -> u8 {
     if i < s.len() {
         return s[i];

@@ -4,8 +4,8 @@ use mathlib.Core.Bool.{true}
 use mathlib.Core.List.{[], _∷_}
 use denote.Ref.{now}
 use Rattle.clock_time.specs.Lists.{ascii}
-use Rattle.layout.specs.Layout.{allowed, fitsFrom}
-use Rattle.layout_words.specs.Words.{enough, samplePlace, sampleFits}
+use Rattle.layout.specs.Layout.{samplePlace, allowed, fitsFrom}
+use Rattle.layout_words.specs.Words.{enough, sampleFits}
 use Rattle.layout.proofs.PartLaws.{parts-fit}
 use Rattle.elv_dcf7000.specs.Elv.{elvLayout}
 use Rattle.elv_dcf7000.proofs.fits.Statement.{statement}
@@ -14,9 +14,9 @@ use Rattle.elv_dcf7000.proofs.fits.Tie as tie
 returns : tie.Need-returns
 unfolding fitsFrom allowed ascii elvLayout enough samplePlace sampleFits
 returns c =
-    let d = c .before in
-    let e = d .before in
-    let start = e .before .before in
+    let d = c .before .before .before in
+    let e = d .before .before .before in
+    let start = e .before .before .before .before in
     rw (c .eight-fit3 .ensures, d .eight-fit2 .ensures, e .eight-fit .ensures, start .pre)
     (parts-fit (8 ∷ 8 ∷ 5 ∷ []) true 0 elvLayout (now (start .args .s)))
 

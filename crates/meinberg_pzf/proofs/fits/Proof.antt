@@ -4,8 +4,8 @@ use mathlib.Core.Bool.{true}
 use mathlib.Core.List.{[], _∷_}
 use denote.Ref.{now}
 use Rattle.clock_time.specs.Lists.{ascii}
-use Rattle.layout.specs.Layout.{fitsFrom}
-use Rattle.layout_words.specs.Words.{enough, samplePlace, sampleFits, flagsFit}
+use Rattle.layout.specs.Layout.{samplePlace, fitsFrom}
+use Rattle.layout_words.specs.Words.{enough, sampleFits, flagsFit}
 use Rattle.layout.proofs.PartLaws.{parts-fit}
 use Rattle.meinberg_pzf.specs.Pzf.{pzfLayout}
 use Rattle.meinberg_pzf.proofs.fits.Statement.{statement}
@@ -14,10 +14,10 @@ use Rattle.meinberg_pzf.proofs.fits.Tie as tie
 returns : tie.Need-returns
 unfolding fitsFrom ascii pzfLayout enough samplePlace sampleFits flagsFit
 returns c =
-    let d = c .before in
-    let e = d .before in
-    let f = e .before in
-    let start = f .before .before in
+    let d = c .before .before .before in
+    let e = d .before .before .before in
+    let f = e .before .before .before in
+    let start = f .before .before .before .before in
     rw (
       c .flags-fit .ensures,
       d .eight-fit3 .ensures,

@@ -5,8 +5,8 @@ use mathlib.Core.List.{[], _∷_}
 use denote.Ref.{now}
 use Rattle.clock_time.specs.Lists.{ascii}
 use Rattle.decimal.specs.Decimal.{isDigit}
-use Rattle.layout.specs.Layout.{allowed, fitsFrom}
-use Rattle.layout_words.specs.Words.{enough, samplePlace, sampleFits}
+use Rattle.layout.specs.Layout.{samplePlace, allowed, fitsFrom}
+use Rattle.layout_words.specs.Words.{enough, sampleFits}
 use Rattle.layout.proofs.PartLaws.{parts-fit}
 use Rattle.meinberg_standard.specs.Standard.{standardLayout}
 use Rattle.meinberg_standard.proofs.fits.Statement.{statement}
@@ -17,9 +17,9 @@ unfolding fitsFrom allowed isDigit ascii standardLayout enough samplePlace sampl
 returns c =
     let x = c .before .before .before .before .before .before .before .before .before .before .before .before in
     let d = x .before .before .before .before in
-    let e = d .before in
-    let f = e .before in
-    let start = f .before .before in
+    let e = d .before .before .before in
+    let f = e .before .before .before in
+    let start = f .before .before .before .before in
     rw (d .eight-fit3 .ensures, e .eight-fit2 .ensures, f .eight-fit .ensures, start .pre)
     (parts-fit (8 ∷ 8 ∷ 8 ∷ []) true 0 standardLayout (now (start .args .s)))
 

@@ -4,8 +4,8 @@ use mathlib.Core.Bool.{true}
 use mathlib.Core.List.{[], _∷_}
 use denote.Ref.{now}
 use Rattle.clock_time.specs.Lists.{ascii}
-use Rattle.layout.specs.Layout.{fitsFrom}
-use Rattle.layout_words.specs.Words.{enough, samplePlace, sampleFits, flagsFit}
+use Rattle.layout.specs.Layout.{samplePlace, fitsFrom}
+use Rattle.layout_words.specs.Words.{enough, sampleFits, flagsFit}
 use Rattle.layout.proofs.PartLaws.{parts-fit}
 use Rattle.meinberg_gps.specs.Gps.{gpsLayout}
 use Rattle.meinberg_gps.proofs.places.fits.Statement.{statement}
@@ -15,11 +15,11 @@ returns : tie.Need-returns
 unfolding fitsFrom ascii gpsLayout enough samplePlace sampleFits flagsFit
 returns c =
     let b = c .before in
-    let d = b .before in
-    let e = d .before in
-    let f = e .before in
-    let g = f .before in
-    let start = g .before .before in
+    let d = b .before .before .before in
+    let e = d .before .before .before in
+    let f = e .before .before .before in
+    let g = f .before .before .before in
+    let start = g .before .before .before .before in
     rw (
       c .rest-fits .ensures,
       b .flags-fit .ensures,

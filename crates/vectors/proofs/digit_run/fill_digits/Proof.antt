@@ -4,10 +4,10 @@ use native.Mathlib.Omega.{arith}
 use mathlib.Core.Path.{_≡_, refl, _∙_}
 use mathlib.Core.List.{_++_}
 use lib.ListN.{length, drop, length-set}
 use Rattle.decimal.specs.Decimal.{digits}
-use Rattle.decimal.proofs.WriteLaws.{digits-fill}
-use Rattle.decimal.proofs.fill_digits.Statement.{statement}
-use Rattle.decimal.proofs.fill_digits.Tie as tie
+use Rattle.vectors.proofs.WriteLaws.{digits-fill}
+use Rattle.vectors.proofs.digit_run.fill_digits.Statement.{statement}
+use Rattle.vectors.proofs.digit_run.fill_digits.Tie as tie
 
 abbrev Inv-loop : tie.InvT-loop
 Inv-loop number count out₀ rest₀ i₀ out rest i =

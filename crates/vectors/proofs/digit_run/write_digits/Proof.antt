@@ -2,9 +2,9 @@
 use native.Mathlib.Omega.{arith}
 use borrow.Author.Needs.{needs}
 use denote.Ref.{now}
-use Rattle.decimal.proofs.WriteLaws.{write-unwritable, write-no-room, write-room}
-use Rattle.decimal.proofs.write_digits.Statement.{statement}
-use Rattle.decimal.proofs.write_digits.Tie as tie
+use Rattle.vectors.proofs.WriteLaws.{write-unwritable, write-no-room, write-room}
+use Rattle.vectors.proofs.digit_run.write_digits.Statement.{statement}
+use Rattle.vectors.proofs.digit_run.write_digits.Tie as tie
 
 returns : tie.Need-returns
 returns c =

@@ -11,10 +11,11 @@ use borrow.Author.Tests.{lt-ltb, le-ltb}
 use lib.ListN.{length, drop, getD, drop-of-length-le}
 use lib.Seq.{drop-cons}
 use Rattle.clock_time.specs.Errors.{accepted}
-use Rattle.decimal.specs.declared.DigitsRead.the-variants.{Number, NotDigit, TooLong}
-use Rattle.decimal.specs.Decimal.{isDigit, firstNonDigit, valueFrom, value, digits, readDigits, digitsAnswer}
+use Rattle.vectors.specs.declared.digit_run.DigitsRead.the-variants.{Number, NotDigit, TooLong}
+use Rattle.decimal.specs.Decimal.{isDigit, firstNonDigit, valueFrom, value, digits}
+use Rattle.vectors.specs.DigitRun.{readDigits, digitsAnswer}
 use Rattle.decimal.proofs.DecimalLaws.{power-next, power-small, digit-range}
 use Rattle.decimal.proofs.DecimalLaws.{first-digit, first-other, first-within, digits-value}
 
 -- at most 19 digits, which stand for n
 pub record Reads (s : List ℕ) (n : ℕ) : Type 0 where

@@ -9,9 +9,10 @@ use lib.Dec.{leb, ltb}
 use lib.ListN.{length, drop, set}
 use lib.Seq.{set-split, drop-at, length-take-le}
 use Rattle.clock_time.specs.Errors.{accepted, refused}
-use Rattle.decimal.specs.Decimal.{digits, writeDigits}
+use Rattle.decimal.specs.Decimal.{digits}
+use Rattle.vectors.specs.DigitRun.{writeDigits}
 use Rattle.decimal.proofs.DecimalLaws.{length-digits, value-digits, digits-are-digits, value-below}
-use Rattle.decimal.proofs.ReadLaws.{Reads}
+use Rattle.vectors.proofs.ReadLaws.{Reads}
 use Rattle.clock_time.proofs.WritingLaws.{writing-unreadable, writing-no-room, writing-room}
 use Rattle.clock_time.proofs.WritingLaws.{writing-not-23, writing-accepted}
 

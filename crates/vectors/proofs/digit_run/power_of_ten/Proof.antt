@@ -2,9 +2,9 @@
 use Prim.Native.Nat.{_+_, _-_, _^_, _≤_}
 use native.Mathlib.Omega.{arith}
 use mathlib.Core.Path.{_≡_, refl}
 use Rattle.decimal.proofs.DecimalLaws.{power-next, power-small}
-use Rattle.decimal.proofs.power_of_ten.Statement.{statement}
-use Rattle.decimal.proofs.power_of_ten.Tie as tie
+use Rattle.vectors.proofs.digit_run.power_of_ten.Statement.{statement}
+use Rattle.vectors.proofs.digit_run.power_of_ten.Tie as tie
 
 abbrev Inv-loop : tie.InvT-loop
 Inv-loop k power₀ i₀ power i = (i ≤ k) × (power ≡ 10 ^ i)

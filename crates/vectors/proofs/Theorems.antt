@@ -7,11 +7,11 @@ use mathlib.Core.List.{List, _++_}
 use lib.ListN.{length, take, drop}
 use lib.Seq.{take-at}
 use Rattle.clock_time.specs.Errors.{accepted, refused}
-use Rattle.decimal.specs.Decimal.{readDigits, writeDigits}
+use Rattle.vectors.specs.DigitRun.{readDigits, writeDigits}
 use Rattle.decimal.proofs.DecimalLaws.{length-digits}
-use Rattle.decimal.proofs.ReadLaws.{read-accepted, accepted-reads, digits-read}
-use Rattle.decimal.proofs.WriteLaws.{reads-digits, read-writable, written}
-use Rattle.decimal.proofs.WriteLaws.{write-unwritable, write-room, writable-not-23}
+use Rattle.vectors.proofs.ReadLaws.{read-accepted, accepted-reads, digits-read}
+use Rattle.vectors.proofs.WriteLaws.{reads-digits, read-writable, written}
+use Rattle.vectors.proofs.WriteLaws.{write-unwritable, write-room, writable-not-23}
 
 -- what is read as n is what n is written as
 pub write-read : (s : List ℕ) (n : ℕ) → readDigits s .answer ≡ accepted n → (d : List ℕ) → length s ≤ length d →

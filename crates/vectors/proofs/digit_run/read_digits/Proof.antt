@@ -6,11 +6,11 @@ use borrow.Author.Needs.{needs}
 use borrow.Author.Tests.{not-true, not-false}
 use denote.Ref.{now}
 use lib.ListN.{length}
 use Rattle.decimal.proofs.DecimalLaws.{digit-range}
-use Rattle.decimal.proofs.ReadLaws.{read-long, read-offence, read-number}
-use Rattle.decimal.proofs.ReadLaws.{Passed, passed-none, passed-small, passed-all, passed-other, passed-digit}
-use Rattle.decimal.proofs.read_digits.Statement.{statement}
-use Rattle.decimal.proofs.read_digits.Tie as tie
+use Rattle.vectors.proofs.ReadLaws.{read-long, read-offence, read-number}
+use Rattle.vectors.proofs.ReadLaws.{Passed, passed-none, passed-small, passed-all, passed-other, passed-digit}
+use Rattle.vectors.proofs.digit_run.read_digits.Statement.{statement}
+use Rattle.vectors.proofs.digit_run.read_digits.Tie as tie
 
 abbrev Inv-loop : tie.InvT-loop
 Inv-loop s number₀ i₀ number i = Passed s i number

@@ -1,4 +1,5 @@
 """Document 01's rules for a tape, its sheet and the correction of a mark, in plain Python: written from the paper."""
+from datetime import datetime, timedelta
 from functools import lru_cache
 from operator import ne
 
@@ -60,3 +61,12 @@ def next_gap(tape, place):
     """'the nearest later place whose mark is 2'"""
     at = bytes(tape).find(GAP, place + 1)
     return None if at < 0 else at
+
+
+def outcome_time(number, first_year=FIRST_YEAR):
+    """Seconds from 1970 to the instant that an accepted minute's number announces: L and the offset are in it."""
+    local = datetime(1970, 1, 1) + timedelta(minutes=(number - 100) // 32)
+    if number < 100 or local.year > first_year + 99:
+        raise Refused(23)
+    utc = local - timedelta(minutes=120 if number - 100 & 8 else 60)
+    return (utc - datetime(1970, 1, 1)) // timedelta(seconds=1)

@@ -215,6 +215,20 @@ def longest_tapes():
     return lines + [unfit(LONGEST, 30, 2, longer)]
 
 
+def outcome(number):
+    return f"outcome {number}", answer_of(recording_rules.outcome_time, number)
+
+
+def outcome_times():
+    """Each refusal's number and 0 are no time; nor is what no minute up to 2069 has."""
+    last = 100 + 32 * 36_525 * 1440 - 1
+    numbers = [*range(30), 99, *range(100, 165), 620_265_028, last - 32, last - 31, *range(last - 24, last + 34)]
+    numbers += [2**31 - 1, 2**31, 2**32 - 1]
+    numbers += recording_rules.sheet_of(day().marks)[119::3600]
+    numbers += [recording_rules.sheet_of(long_tape())[place] for place in (90_060, 90_120, 99_960)]
+    return [outcome(number) for number in numbers]
+
+
 SECTIONS = (
     ("Tapes of document 01", examples),
     ("Every place of P4 with every mark", every_place_and_mark),
@@ -226,6 +240,7 @@ SECTIONS = (
     ("Sheets that are not right", wrong_sheets),
     ("Sheets and tapes of other lengths", other_lengths),
     ("The longest tapes", longest_tapes),
+    ("Unix times of outcomes", outcome_times),
 )
 
 
@@ -238,3 +253,4 @@ def check_against_document():
         assert recording_rules.correct(marks, numbers, place, mark) == count
         assert numbers == [mended.get(i, number) for i, number in enumerate(sheet)]
     assert answer_of(recording_rules.correct, list(P4), list(sheet), 61, 0) == "refused 21"
+    assert recording_rules.outcome_time(620265028) == 1162993140 and recording_rules.outcome_time(100) == -3600

@@ -1,11 +1,13 @@
 // The C API of recordings: the outcomes of a recording of marks. Each exported function returns 0, or the number of
 // its refusal, and leaves its results in memory that the caller lends. A refusal changes nothing lent.
+use calendar::unix_time::UnixTime;
 use recording::CorrectAnswer;
 use recording::FillAnswer;
 use recording::OutcomeAnswer;
 ghost use mathlib.Core.Path.{_≡_};
 ghost use Rattle.recording.specs.Recording.{outcomeAt, fillOutcomes, recorded, correctMark};
 ghost use Rattle.clock_time.specs.Called.{called, calledAnswer, calledMemory, calledBoth};
+ghost use Rattle.dcf77_outcome.specs.Instant.{outcomeUnixTime};
 
 // Leaves the number that the rule gives a place behind `number`. Refuses with LentMemory (20) if there are more than
 // 100,000 marks, then with Place (21) if there is no such place.
@@ -21,6 +23,23 @@ pub extern "C" fn radio_clock_outcome_at(marks: &[u8], place: usize, number: &mu
             0
         }
         OutcomeAnswer::Refused(e) => clock_time::error_number(e),
+    }
+}
+
+// Leaves the Unix time that the outcome of an accepted minute announces behind `time`. Refuses with Unrepresentable (23)
+// if the outcome is below 100, or above that of the last minute of 2069.
+#[no_mangle]
+pub extern "C" fn radio_clock_outcome_unix_time(outcome: u32, time: &mut i64) -> u8
+    ensures { λ r. ⌜
+        called r (now (time .exit)) ≡ calledAnswer (now (time .entry)) (outcomeUnixTime outcome)
+        ⌝ }
+{
+    match dcf77_outcome::outcome_unix_time(outcome) {
+        UnixTime::At(z) => {
+            *time = z;
+            0
+        }
+        UnixTime::Refused(e) => clock_time::error_number(e),
     }
 }
 

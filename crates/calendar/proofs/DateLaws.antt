@@ -6,14 +6,15 @@ use mathlib.Core.Path.{_≡_, refl}
 use mathlib.Core.Bool.{Bool, true, false, cond, not, _&&_, _||_}
 use mathlib.Core.List.{[], _∷_}
 use lib.Dec.{leb, ltb, eqb, eqb→eq, leb→le}
-use lib.ListN.{take}
+use lib.ListN.{getD, take}
 use mir.Val.{boolByte}
 use borrow.Author.Tests.{ltb-true, eq-eqb, ne-eqb}
 use Rattle.clock_time.specs.Errors.{accepted, refused, given, checked}
 use Rattle.clock_time.proofs.Tests.{below-at}
 use Rattle.clock_time.specs.Lists.{sum}
-use Rattle.gregorian.specs.Date.{isLeapYear, monthLengths, firstYear, lastYear, supportedDate}
+use Rattle.gregorian.specs.Date.{isLeapYear, monthLengths, daysInMonth, firstYear, lastYear, supportedDate}
 use Rattle.gregorian.proofs.DateLaws.{every-fourth, every-month, known}
+use Rattle.gregorian.proofs.RulesLaws.{most-days, supported-exactly}
 use Rattle.calendar.specs.Date.{daysOfYears, daysBeforeMonth, daysSinceEpoch, dayNumber}
 use Rattle.calendar.specs.Date.{weekdayNumber, weekdayOf, weekdayOrZero}
 
@@ -94,13 +95,38 @@ days-sum year month day h =
     (apart (365 * (year - 1970)) _ _ _ (489 * month / 16) _ _ day (k .day-least) leaps
     (days-before (isLeapYear year) month (k .month-least) (k .month-most)))
 
--- a date of the years 1970 to 2069 is less than 40,000 days after 1 January 1970
+-- a month ends with its year or before
+endTest : Bool → ℕ → Bool
+endTest leap month =
+    leb (sum (take (month - 1) (monthLengths leap)) + getD (0 ∷ monthLengths leap) month 0) (sum (monthLengths leap))
+
+month-ends : (year month : ℕ) → month ≤ 12
+    → daysBeforeMonth year month + daysInMonth year month ≤ sum (monthLengths (isLeapYear year))
+unfolding endTest daysBeforeMonth daysInMonth monthLengths
+month-ends year month h = leb→le _ _ (every-month endTest tt tt (isLeapYear year) month h)
+
+-- the hundred years from 1970 on have 36,525 days
+years-end : (n : ℕ) → n < 100 → daysOfYears 1970 n + sum (monthLengths (isLeapYear (1970 + n))) ≤ 36525
+unfolding daysOfYears isLeapYear monthLengths
+years-end n h =
+    leb→le _ _
+    (below-at 100 (λ k. leb (daysOfYears 1970 k + sum (monthLengths (isLeapYear (1970 + k)))) 36525) tt n h)
+
+year-ends : (year : ℕ) → 1970 ≤ year → year ≤ 2069
+    → daysOfYears 1970 (year - 1970) + sum (monthLengths (isLeapYear year)) ≤ 36525
+year-ends year first last =
+    let same : 1970 + (year - 1970) ≡ year = omega arith in
+    rw same at (years-end (year - 1970) (omega arith))
+
+-- so a date of these years is less than 36,525 days after 1 January 1970
 pub days-small : (year month day : ℕ) → supportedDate firstYear lastYear year month day ≡ true
-    → daysSinceEpoch year month day < 40000
-unfolding daysSinceEpoch daysBeforeMonth
+    → daysSinceEpoch year month day < 36525
+unfolding daysSinceEpoch
 days-small year month day h =
     let k = known year month day h in
-    omega (arith, days-of-years (year - 1970) (omega arith), before-small (isLeapYear year) month (k .month-most))
+    let most = most-days year month day (supported-exactly year month day .0 h .2) in
+    let ends = year-ends year (k .year-least) (k .year-most) in
+    omega (arith, k .day-least, most, month-ends year month (k .month-most), ends)
 
 -- so that what a date adds to its years is small
 pub rest-small : (year month day rest : ℕ) → supportedDate firstYear lastYear year month day ≡ true

@@ -5,7 +5,7 @@ use clock_time::ClockTime;
 use clock_time::Error;
 ghost use mathlib.Core.Path.{_≡_};
 ghost use mathlib.Core.Bool.{true};
-ghost use Prim.Native.Nat.{_<_};
+ghost use Prim.Native.Nat.{_*_, _<_};
 ghost use lib.IntN.{pos, _-ℤ_, _*ℤ_};
 ghost use Rattle.calendar.specs.UnixTime.{offsetInRange, isReading, instantOf, unixTime, unixTimeAnswer};
 
@@ -40,6 +40,13 @@ fn to_utc(local: u64, offset: i16) -> i64
     ensures { λ r. ⌜ r ≡ pos local -ℤ pos 60 *ℤ offset ⌝ }
 {
     local as i64 - 60 * (offset as i64)
+}
+
+// The Unix time of a local time, in minutes from 1 January 1970 00:00.
+pub fn utc_of_minutes(minutes: u32, offset: i16) -> i64
+    ensures { λ r. ⌜ r ≡ pos (60 * minutes) -ℤ pos 60 *ℤ offset ⌝ }
+{
+    to_utc(60 * (minutes as u64), offset)
 }
 
 fn instant_of(t: ClockTime) -> i64

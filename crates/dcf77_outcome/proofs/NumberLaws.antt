@@ -58,7 +58,7 @@ module _ (a : MinuteTime) where
         number = omega arith;
       }
 
-  number-outcome : (n : ℕ) → MinuteNumber a n → outcomeNumber (accepted a) ≡ n
+  pub number-outcome : (n : ℕ) → MinuteNumber a n → outcomeNumber (accepted a) ≡ n
   number-outcome n w =
       let t = a .time in
       let days = day-after-exactly (w .days) (t .year) (t .month) (t .day) .0 (w .date) .2 in

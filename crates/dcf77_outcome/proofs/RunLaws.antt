@@ -22,7 +22,7 @@ accepted-known m a h =
     let w = read-keeps m a h in
     rw (w .1) (supported-exists (twoDigits 50 4 m) _ _ ∙ date-exactly _ _ _ .1 (w .0 .1 .date))
 
-zone-summer : (summer : Bool) → eqℤ (cetOffset summer) (pos 120) ≡ summer
+pub zone-summer : (summer : Bool) → eqℤ (cetOffset summer) (pos 120) ≡ summer
 unfolding eqℤ
 zone-summer true = refl
 zone-summer false = refl

@@ -1,3 +1,4 @@
--- The definitions that the contract cites.
+-- The definitions that the contracts cite.
 pub mod Number
 pub mod RunNumber
+pub mod Instant

@@ -1,17 +1,23 @@
-// The number of a run of marks.
+// The number of a run of marks, and the Unix time that such a number announces.
 use calendar::date::DateAnswer;
+use calendar::unix_time::UnixTime;
+use clock_time::Error;
 use dcf77::MinuteAnswer;
 use dcf77::MinuteTime;
 ghost use mathlib.Core.Path.{_≡_};
 ghost use mathlib.Core.Bool.{true};
-ghost use Prim.Native.Nat.{_+_, _*_, _<_};
+ghost use Prim.Native.Nat.{_+_, _-_, _*_, _/_, _%_, _≤_, _<_};
+ghost use lib.Dec.{eqb};
 ghost use lib.IntN.{pos};
 ghost use Rattle.clock_time.specs.Errors.{accepted};
+ghost use Rattle.clock_time.specs.Zone.{cetOffset};
 ghost use Rattle.clock_time.specs.Same.{eqℤ};
 ghost use Rattle.gregorian.specs.Date.{supportedDate, firstYear, lastYear};
 ghost use Rattle.calendar.specs.Date.{daysSinceEpoch};
+ghost use Rattle.calendar.specs.UnixTime.{unixTimeAnswer};
 ghost use Rattle.dcf77.specs.Minute.{mark};
 ghost use Rattle.dcf77_outcome.specs.Number.{outcomeNumber, runNumber};
+ghost use Rattle.dcf77_outcome.specs.Instant.{outcomeUnixTime};
 
 // Days from 1 January 1970 to a date that exists.
 fn days_to(year: u16, month: u8, day: u8) -> u32
@@ -26,7 +32,7 @@ fn days_to(year: u16, month: u8, day: u8) -> u32
 
 // The minutes from 1 January 1970 00:00.
 fn local_minutes(days: u32, hour: u8, minute: u8) -> u32
-    requires { ⌜ days < 40000 ⌝ }
+    requires { ⌜ days < 36525 ⌝ }
     ensures { λ r. ⌜ (r < 58000000) × (r ≡ 1440 * days + 60 * hour + minute) ⌝ }
 {
     1440 * days + 60 * (hour as u32) + minute as u32
@@ -78,4 +84,27 @@ pub fn run_number(m: &[u8]) -> u32
         MinuteAnswer::Read(a) => number_of(a),
         MinuteAnswer::Refused(e) => clock_time::error_number(e) as u32,
     }
+}
+
+// The UTC offset that is in the number of an accepted minute.
+fn offset_in(number: u32) -> i16
+    requires { ⌜ 100 ≤ number ⌝ }
+    ensures { λ r. ⌜ r ≡ cetOffset (eqb ((number - 100) / 8 % 2) 1) ⌝ }
+{
+    if (number - 100) / 8 % 2 == 1 {
+        return 120;
+    }
+    60
+}
+
+// The Unix time that the number of an accepted minute announces. Refuses with Unrepresentable (23) if the number is
+// below 100, or above that of the last minute of 2069.
+pub fn outcome_unix_time(number: u32) -> UnixTime
+    ensures { λ r. ⌜ unixTimeAnswer r ≡ outcomeUnixTime number ⌝ }
+{
+    if (number < 100) | (1683072099 < number) {
+        return UnixTime::Refused(Error::Unrepresentable);
+    }
+    let offset = offset_in(number);
+    UnixTime::At(calendar::unix_time::utc_of_minutes((number - 100) / 32, offset))
 }

@@ -19,12 +19,14 @@ use Rattle.gregorian.proofs.RulesLaws.{supported-exactly}
 use Rattle.calendar.proofs.RulesLaws.{valid-exactly}
 use Rattle.dcf77.specs.Minute.{minuteChecks}
 use Rattle.dcf77.proofs.LinesLaws as minutes
+use Rattle.dcf77_outcome.specs.Instant.{isMinuteNumber}
+use Rattle.dcf77_outcome.proofs.InstantLaws.{number-test}
 use Rattle.recording.specs.Recording.{unfit, correctionChecks}
 use Rattle.dcf77.specs.Lines.{minuteLines}
 use Rattle.time_string.specs.Kind.{namedKind}
 use Rattle.demands.specs.Lines.{linesAs, kindLines, outcomeLines, fillLines, correctionLines, instantLines}
 use Rattle.demands.specs.Lines.{dateLines, numberCount, readLines, readMinuteLines, feedLines}
-use Rattle.demands.specs.Lines.{textOrder, ownNumbers, noRoomFor}
+use Rattle.demands.specs.Lines.{textOrder, ownNumbers, noRoomFor, outcomeTimeLines}
 use Rattle.demands.proofs.KindLaws.{kind-laws}
 use Rattle.demands.proofs.Checks.{checksAs, kindChecks, roomCheck, readChecks, readMinuteChecks}
 
@@ -47,6 +49,10 @@ kind-agrees s =
 pub outcome-agrees : (marks : List ℕ) (place : ℕ) →
     Agree (given 20 (ltb 100000 (length marks)) ∷ given 21 (leb (length marks) place) ∷ []) (outcomeLines marks place)
 outcome-agrees marks place = (refl, lt-exactly _ _, λ p. (refl, le-exactly _ _, λ q. tt))
+
+pub outcome-time-agrees : (n : ℕ) → Agree (given 23 (not (isMinuteNumber n)) ∷ []) (outcomeTimeLines n)
+outcome-time-agrees n =
+    (refl, rw (← (number-test n)) (either-exactly _ _ (lt-exactly n 100) (lt-exactly 1683072099 n)), λ p. tt)
 
 unfit-exactly : (m n : ℕ) → (unfit m n ≡ true) ↔ ((m ≡ n → ⊥) ⊎ (100000 < m))
 unfit-exactly m n = either-exactly _ _ (not-exactly _ (eq-exactly m n)) (lt-exactly 100000 m)

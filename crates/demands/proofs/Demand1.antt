@@ -63,8 +63,9 @@ use Rattle.c_feed.specs.Feed.{FeedMemory, feedInto}
 use Rattle.demands.specs.Refusals.{tests, RefusesInOrder, RefusesAndKeeps, CallRefusesAndKeeps}
 use Rattle.demands.specs.Accepted.{AcceptsMinuteNumbers}
 use Rattle.demands.specs.Lines.{textOrder, ownNumbers, minuteOrder, linesAs, kindLines, writerLines, outcomeLines}
+use Rattle.dcf77_outcome.specs.Instant.{isMinuteNumber, outcomeInstant, outcomeUnixTime}
 use Rattle.demands.specs.Lines.{fillLines, correctionLines, instantLines, dateLines, readLines, writeLines}
-use Rattle.demands.specs.Lines.{readMinuteLines, instantLinesOf, feedLines}
+use Rattle.demands.specs.Lines.{readMinuteLines, instantLinesOf, feedLines, outcomeTimeLines}
 use Rattle.demands.proofs.KindLaws.{kind-laws}
 use Rattle.demands.proofs.Checks.{kindChecks, readChecks, readMinuteChecks}
 use Rattle.demands.proofs.OrderLaws.{ordered, by-tests, keeps, decided, agree-tests, positive-append}
@@ -136,6 +137,11 @@ unfolding outcomeAt
 outcome-at marks place =
     ordered (rule marks place) (given 20 (ltb 100000 (length marks)) ∷ given 21 (leb (length marks) place) ∷ []) _
     (agrees.outcome-agrees marks place) _ refl
+
+pub outcome-unix-time : (n : ℕ) → RefusesInOrder (outcomeTimeLines n) (23 ∷ []) (outcomeUnixTime n)
+unfolding outcomeUnixTime
+outcome-unix-time n =
+    ordered (outcomeInstant n) (given 23 (not (isMinuteNumber n)) ∷ []) _ (agrees.outcome-time-agrees n) _ refl
 
 pub fill-outcomes : (marks outcomes : List ℕ) →
     RefusesAndKeeps (fillLines marks outcomes) (20 ∷ []) outcomes (fillOutcomes marks outcomes)
@@ -232,6 +238,10 @@ c-unix-time old z =
 pub c-outcome-at : (old : ℕ) (marks : List ℕ) (place : ℕ) →
     CallRefusesAndKeeps (outcomeLines marks place) (20 ∷ 21 ∷ []) old (calledAnswer old (outcomeAt marks place))
 c-outcome-at old marks place = from-answer _ _ refl old _ (outcome-at marks place)
+
+pub c-outcome-unix-time : (old : ℤ) (n : ℕ) →
+    CallRefusesAndKeeps (outcomeTimeLines n) (23 ∷ []) old (calledAnswer old (outcomeUnixTime n))
+c-outcome-unix-time old n = from-answer _ _ refl old _ (outcome-unix-time n)
 
 pub c-fill-outcomes : (marks outcomes : List ℕ) →
     CallRefusesAndKeeps (fillLines marks outcomes) (20 ∷ []) outcomes (calledMemory (fillOutcomes marks outcomes))

@@ -8,6 +8,7 @@ use Rattle.clock_time.specs.Errors.{refused, given}
 use Rattle.clock_time.proofs.ExactLaws.{lt-exactly}
 use Rattle.calendar.specs.UnixTime.{instantOf}
 use Rattle.dcf77.specs.Minute.{readMinute}
+use Rattle.dcf77_outcome.specs.Instant.{outcomeUnixTime}
 use Rattle.c_fields.specs.Ranges.{timeFrom}
 use Rattle.time_string.specs.Kind.{kindNumber, namedKind}
 use Rattle.c_readings.specs.Strings.{kindNumberOf, readNumbered, unixTimeOf}
@@ -45,3 +46,6 @@ instant-0 z =
     never-0 _ (23 ∷ []) refl (unixTimeOf z)
     (ordered (instantOf (timeFrom z)) (given 23 (not (instants.ofValid z)) ∷ []) (instantLinesOf z)
     (instants.numbers-agree z) (unixTimeOf z) (instants.numbers-checks z))
+
+pub outcome-time-0 : (n : ℕ) → outcomeUnixTime n ≡ refused 0 → ⊥
+outcome-time-0 n = never-0 _ (23 ∷ []) refl (outcomeUnixTime n) (demand-1.outcome-unix-time n)

@@ -7,6 +7,9 @@ use lib.IntN.{ℤ, pos, _-ℤ_, _*ℤ_}
 use Rattle.clock_time.specs.declared.ClockTime.{ClockTime}
 use Rattle.calendar.specs.Rules.{ValidReading}
 use Rattle.calendar.specs.Days.{DayAfter}
+use Rattle.dcf77.specs.Accepts.{AcceptsMinute}
+use Rattle.dcf77.specs.declared.MinuteTime.{MinuteTime}
+use Rattle.dcf77_outcome.specs.RunNumber.{MinuteNumber}
 use Rattle.c_numbers.specs.Numbers.{timeNumbers, timeCount}
 
 -- "The instant is 86,400 × days since 1 January 1970 + 3,600 × hour + 60 × minute + second − 60 × offset. It may be
@@ -25,3 +28,9 @@ InstantOf t z = ValidReading t × Instant t z
 -- the same of the first 14 of some numbers; numbers that are no reading's, such as a flag of 2, have no instant
 abbrev pub InstantOfNumbers : List ℤ → ℤ → Type 0
 InstantOfNumbers numbers z = (t : ClockTime) × ((take timeCount numbers ≡ timeNumbers t) × InstantOf t z)
+
+-- "100 + 32 L + 16 (run of 60) + 8 (offset 120) + [..]" (01, Tape and sheet): an answer to the number n says the instant
+-- of every accepted minute that has this number
+abbrev pub SaysAnnounced : {C : Type 0} → ((ℤ → Type 0) → C → Type 0) → ℕ → C → Type 0
+SaysAnnounced Says n c =
+    (m : List ℕ) (a : MinuteTime) → AcceptsMinute m a → MinuteNumber a n → Says (InstantOf (a .time)) c

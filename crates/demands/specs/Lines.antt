@@ -56,6 +56,11 @@ writerLines Reads buffer =
 abbrev pub outcomeLines : List ℕ → ℕ → List Line
 outcomeLines marks place = line 20 (100000 < length marks) ∷ line 21 (length marks ≤ place) ∷ []
 
+-- 23: "reading that no accepted string or minute of this format gives" (01, Refusal numbers): no accepted minute has a
+-- number below 100, nor one above that of the last minute of 2069
+abbrev pub outcomeTimeLines : ℕ → List Line
+outcomeTimeLines n = line 23 ((n < 100) ⊎ (1683072099 < n)) ∷ []
+
 -- 20: "sheet and tape lengths differ, tape over 100,000" (01, Refusal numbers)
 abbrev pub fillLines : List ℕ → List ℕ → List Line
 fillLines marks outcomes = line 20 ((length marks ≡ length outcomes → ⊥) ⊎ (100000 < length marks)) ∷ []

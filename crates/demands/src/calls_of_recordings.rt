@@ -6,7 +6,8 @@ ghost use Rattle.clock_time.specs.Called.{called};
 ghost use Rattle.recording.specs.Demand.{Corrected};
 ghost use Rattle.recording.specs.Recording.{Recorded, recorded};
 ghost use Rattle.demands.specs.Refusals.{CallRefusesAndKeeps};
-ghost use Rattle.demands.specs.Lines.{outcomeLines, fillLines, correctionLines};
+ghost use Rattle.demands.specs.Lines.{outcomeLines, outcomeTimeLines, fillLines, correctionLines};
+ghost use Rattle.demands.specs.Instant.{SaysAnnounced};
 ghost use Rattle.recording.specs.SheetNumber.{RightFor};
 ghost use Rattle.demands.specs.OutcomeAt.{OutcomeAt};
 ghost use Rattle.demands.specs.Exactly.{CallAnswersExactly};
@@ -21,6 +22,15 @@ fn radio_clock_outcome_at(marks: &[u8], place: usize, number: &mut u32) -> u8
         ⌝ }
 {
     c_recordings::radio_clock_outcome_at(marks, place, number)
+}
+
+fn radio_clock_outcome_unix_time(outcome: u32, time: &mut i64) -> u8
+    ensures demand_1 { λ r. ⌜
+        CallRefusesAndKeeps (outcomeTimeLines outcome) (23 ∷ []) (now (time .entry)) (called r (now (time .exit)))
+        ⌝ }
+    ensures answer { λ r. ⌜ SaysAnnounced CallAnswersExactly outcome (called r (now (time .exit))) ⌝ }
+{
+    c_recordings::radio_clock_outcome_unix_time(outcome, time)
 }
 
 fn radio_clock_fill_outcomes(marks: &[u8], outcomes: &mut [u32]) -> u8

@@ -1,4 +1,5 @@
 // A recording, its outcomes, and the correction of a mark.
+use calendar::unix_time::UnixTime;
 use recording::CorrectAnswer;
 use recording::FillAnswer;
 use recording::OutcomeAnswer;
@@ -6,10 +7,12 @@ ghost use Prim.Native.Nat.{ℕ};
 ghost use mathlib.Core.Path.{_≡_};
 ghost use mathlib.Core.List.{[], _∷_};
 ghost use Rattle.clock_time.specs.Errors.{accepted};
+ghost use Rattle.calendar.specs.UnixTime.{unixTimeAnswer};
 ghost use Rattle.recording.specs.Demand.{Corrected};
 ghost use Rattle.recording.specs.Recording.{outcomeAnswer, fillAnswer, filling, recorded, correctAnswer, correction};
 ghost use Rattle.demands.specs.Refusals.{RefusesInOrder, RefusesAndKeeps};
-ghost use Rattle.demands.specs.Lines.{outcomeLines, fillLines, correctionLines};
+ghost use Rattle.demands.specs.Lines.{outcomeLines, outcomeTimeLines, fillLines, correctionLines};
+ghost use Rattle.demands.specs.Instant.{SaysAnnounced};
 ghost use Rattle.recording.specs.SheetNumber.{RightFor};
 ghost use Rattle.demands.specs.OutcomeAt.{OutcomeAt};
 ghost use Rattle.demands.specs.Exactly.{ReadsExactly};
@@ -21,6 +24,13 @@ fn outcome_at(marks: &[u8], place: usize) -> OutcomeAnswer
     ensures rule { λ r. ⌜ ReadsExactly (OutcomeAt (now (marks .entry)) place) (outcomeAnswer r) ⌝ }
 {
     recording::outcome_at(marks, place)
+}
+
+fn outcome_unix_time(number: u32) -> UnixTime
+    ensures demand_1 { λ r. ⌜ RefusesInOrder (outcomeTimeLines number) (23 ∷ []) (unixTimeAnswer r) ⌝ }
+    ensures answer { λ r. ⌜ SaysAnnounced ReadsExactly number (unixTimeAnswer r) ⌝ }
+{
+    dcf77_outcome::outcome_unix_time(number)
 }
 
 fn fill_outcomes(marks: &[u8], outcomes: &mut [u32]) -> FillAnswer

@@ -88,11 +88,10 @@ fn read_fitting(s: &[u8]) -> ReadAnswer
 pub fn read_elv(s: &[u8]) -> ReadAnswer
     ensures { λ r. ⌜ readAnswer r ≡ readElv (now (s .entry)) ⌝ }
 {
-    if s.len() != 21 {
-        return ReadAnswer::Refused(first_error(&s[..]));
-    }
-    if fits(s) {
-        return read_fitting(s);
+    if s.len() == 21 {
+        if fits(s) {
+            return read_fitting(s);
+        }
     }
     ReadAnswer::Refused(first_error(&s[..]))
 }

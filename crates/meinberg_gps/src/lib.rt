@@ -92,11 +92,10 @@ fn read_fitting(s: &[u8]) -> GpsAnswer
 pub fn read_gps(s: &[u8]) -> GpsAnswer
     ensures { λ r. ⌜ gpsAnswer r ≡ readGps (now (s .entry)) ⌝ }
 {
-    if s.len() != 66 {
-        return GpsAnswer::Refused(places::first_error(&s[..]));
-    }
-    if places::fits(s) {
-        return read_fitting(s);
+    if s.len() == 66 {
+        if places::fits(s) {
+            return read_fitting(s);
+        }
     }
     GpsAnswer::Refused(places::first_error(&s[..]))
 }

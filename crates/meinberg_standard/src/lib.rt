@@ -82,11 +82,10 @@ fn fields(s: &[u8]) -> ClockTime
 pub fn read_standard(s: &[u8]) -> ReadAnswer
     ensures { λ r. ⌜ readAnswer r ≡ readStandard (now (s .entry)) ⌝ }
 {
-    if s.len() != 32 {
-        return ReadAnswer::Refused(first_error(&s[..]));
-    }
-    if fits(s) {
-        return layout::check_clock(fields(s), false);
+    if s.len() == 32 {
+        if fits(s) {
+            return layout::check_clock(fields(s), false);
+        }
     }
     ReadAnswer::Refused(first_error(&s[..]))
 }

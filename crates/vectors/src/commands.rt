@@ -33,6 +33,8 @@ pub const WRITE: u64 = 0x7772697465;
 
 pub const AT: u64 = 0x6174;
 
+pub const OUTCOME: u64 = 0x6f7574636f6d65;
+
 pub const FILL: u64 = 0x66696c6c;
 
 pub const CORRECT: u64 = 0x636f7272656374;
@@ -48,6 +50,7 @@ pub fn types_of(word: u64) -> u64 {
         KIND | DIGITS | RUN => 0,
         ERROR | YEAR | READ => 1,
         LEAP => 2,
+        OUTCOME => 4,
         MONTH => 21,
         AT | FILL => 44,
         DATE | DAY | WEEKDAY => 211,

@@ -26,6 +26,7 @@ fn answer(word: u64, v: &Numbers, s: &[u8], a: &mut Numbers) {
         commands::RUN => numbers::add(a, dcf77_outcome::run_number(s) as u64),
         commands::DIGITS => numbers::add(a, digits::read(s)),
         commands::AT => numbers::add(a, recordings::outcome_at(v, s)),
+        commands::OUTCOME => numbers::add(a, recordings::outcome_time(v)),
         commands::FILL | commands::CORRECT | commands::MEND | commands::UNFIT => {
             recordings::answer(word, v, s, a)
         }

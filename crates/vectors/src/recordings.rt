@@ -1,7 +1,8 @@
 // The commands on recordings. The numbers start with the length of the recording and that of its sheet; the text has a
 // digit for each mark and, if it is empty, the marks are those of the module `day`. `at` has a place as its second
 // number, and gives the number there; `fill` makes the sheet; `correct` puts a mark at a place with a sheet that is
-// right, `mend` with one that had a number put at a place of it, and `unfit` with one that holds 7 everywhere.
+// right, `mend` with one that had a number put at a place of it, and `unfit` with one that holds 7 everywhere. `outcome`
+// has an outcome as its only number, and gives its Unix time.
 use crate::commands;
 use crate::day;
 use crate::day::Recording;
@@ -11,6 +12,7 @@ use crate::text;
 use c_recordings::radio_clock_correct_mark;
 use c_recordings::radio_clock_fill_outcomes;
 use c_recordings::radio_clock_outcome_at;
+use c_recordings::radio_clock_outcome_unix_time;
 
 type Outcomes = [u32; 100001];
 
@@ -103,6 +105,13 @@ fn put_number(o: &mut Outcomes, at: usize, number: u64) {
     if at < 100001 {
         o[at] = (number % 4294967296) as u32;
     }
+}
+
+// The Unix time that an outcome announces, by the first number's last 32 bits.
+pub fn outcome_time(v: &Numbers) -> u64 {
+    let mut time = 0;
+    let refusal = radio_clock_outcome_unix_time((v[1] % 4294967296) as u32, &mut time);
+    numbers::answer_number(refusal, numbers::bits(time))
 }
 
 // Puts the marks of a text or, if it is empty, of the day.

@@ -88,7 +88,7 @@ static void collect_string(const char *file, size_t place, const uint8_t *s, siz
     struct radio_clock_time time;
     struct radio_clock_position position;
     int64_t unix_time;
-    uint8_t error = radio_clock_read_string(s, n, &time, &position, &unix_time);
+    uint8_t kind, error = radio_clock_read_string(s, n, &kind, &time, &position, &unix_time);
     if (error == 0)
         add_entry(file, &time, unix_time);
     else

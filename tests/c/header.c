@@ -12,7 +12,9 @@ int main(void)
     uint8_t marks[RADIO_CLOCK_MINUTE_MAX];
     size_t taken = 0, written = 0;
     int64_t time = 0;
-    if (radio_clock_read_string(elv, 21, &t, &position, &time) != 0 || time != 1162993179 || t.weekday != 3)
+    uint8_t kind = 0;
+    if (radio_clock_read_string(elv, 21, &kind, &t, &position, &time) != 0 || kind != RADIO_CLOCK_ELV ||
+        time != 1162993179 || t.weekday != 3)
         return 1;
     radio_clock_fields_of(t, fields);
     if (radio_clock_time_of(fields).year != 2006)

@@ -286,7 +286,7 @@ static inline uint8_t radio_clock_read_marks(const uint8_t *marks, size_t n, str
     int32_t fields[RADIO_CLOCK_MINUTE_FIELDS];
     uint8_t error = radio_clock_read_minute(marks, n, fields, RADIO_CLOCK_MINUTE_FIELDS);
     if (error == 0)
-        error = radio_clock_unix_time(fields, RADIO_CLOCK_MINUTE_FIELDS, time);
+        error = radio_clock_unix_time(fields, RADIO_CLOCK_TIME_FIELDS, time);
     if (error != 0)
         return error;
     *t = radio_clock_time_of(fields);

@@ -1,6 +1,7 @@
 /* compare [-n CASES] [-s SEED] [-c CASE]: compares the library with the reference, in answers, in all lent memory and
- * in the memory around it. Prints the seed and how often each answer came. Fails at the first difference, whose case -c
- * runs alone, and where one of the refusal numbers 1 to 23 never came. */
+ * in the memory around it, and the inline functions of the header with both. Prints the seed and how often each answer
+ * came. Fails at the first difference, whose case -c runs alone, and if one of the refusal numbers 1 to 23 never
+ * came. */
 #define _POSIX_C_SOURCE 200809L
 #include <inttypes.h>
 #include <signal.h>
@@ -11,6 +12,7 @@
 #include <time.h>
 #include <unistd.h>
 
+#include "by_name.h"
 #include "examples.h"
 #include "inputs.h"
 #include "lend.h"
@@ -90,6 +92,12 @@ static void compare_answers(enum function f, uint8_t library, uint8_t reference)
     answers[f][reference]++;
 }
 
+static void compare_by_name(enum function f, const char *difference)
+{
+    if (difference != NULL)
+        fail(f, difference);
+}
+
 /* Lends memory that holds a random start. */
 static void lend_any(struct lent *l, size_t length)
 {
@@ -121,6 +129,7 @@ static void compare_kind(const uint8_t *s, size_t n)
     compare_answers(KIND, radio_clock_kind(small[0].library, n, small[1].library),
                     reference_kind(small[0].reference, n, small[1].reference));
     compare_lent(KIND, (const struct lent *[]){ &small[0], &small[1] }, 2);
+    compare_by_name(KIND, by_name_string(small[0].library, n));
 }
 
 static void compare_read(uint8_t kind, const uint8_t *s, size_t n, size_t room)
@@ -132,6 +141,7 @@ static void compare_read(uint8_t kind, const uint8_t *s, size_t n, size_t room)
                     reference_read(kind, REFERENCE_SENDS_U, REFERENCE_FIRST_YEAR, small[0].reference, n,
                                    (int32_t *)small[1].reference, room, &place));
     compare_lent(READ, (const struct lent *[]){ &small[0], &small[1] }, 2);
+    compare_by_name(READ, by_name_string(small[0].library, n));
 }
 
 static void compare_write(uint8_t kind, const int32_t *fields, size_t count, size_t room)
@@ -155,6 +165,7 @@ static void compare_read_minute(const uint8_t *marks, size_t n, size_t room)
                     reference_read_minute(REFERENCE_FIRST_YEAR, small[0].reference, n, (int32_t *)small[1].reference,
                                           room));
     compare_lent(READ_MINUTE, (const struct lent *[]){ &small[0], &small[1] }, 2);
+    compare_by_name(READ_MINUTE, by_name_minute(small[0].library, n));
 }
 
 static void compare_write_minute(const int32_t *fields, size_t count, size_t room)
@@ -177,6 +188,8 @@ static void compare_unix_time(const int32_t *fields, size_t count)
     compare_answers(UNIX_TIME, radio_clock_unix_time((int32_t *)small[0].library, count, (int64_t *)small[1].library),
                     reference_unix_time((int32_t *)small[0].reference, count, (int64_t *)small[1].reference));
     compare_lent(UNIX_TIME, (const struct lent *[]){ &small[0], &small[1] }, 2);
+    if (count >= 14)
+        compare_by_name(UNIX_TIME, by_name_fields((int32_t *)small[0].library));
 }
 
 static void compare_outcome_at(struct lent *marks, size_t place)
@@ -191,6 +204,11 @@ static void compare_outcome_at(struct lent *marks, size_t place)
         uint32_t outcome;
         memcpy(&outcome, small[2].reference, sizeof outcome);
         outcomes_seen[outcome < 20 ? outcome : 20]++;
+        size_t start = place;
+        while (start > 0 && marks->library[start - 1] != 2)
+            start--;
+        if (start > 0 && marks->library[place] == 2)
+            compare_by_name(OUTCOME_AT, by_name_outcome(outcome, marks->library + start, place - start));
     }
 }
 
@@ -244,6 +262,8 @@ static void simplify_state(uint8_t *state, uint8_t event)
 static uint8_t compare_feed(struct lent *state, const uint8_t *s, size_t n, size_t limit, size_t *taken)
 {
     uint8_t library[68], reference[68], kept[68];
+    if (state->length >= 68)
+        compare_by_name(FEED, by_name_feed(state->library, s, n));
     lend_bytes(&small[1], s, n);
     lend_any(&small[2], sizeof(size_t));
     lend_any(&small[3], 1);

@@ -18,7 +18,7 @@ CRATES = crates.txt $(shell find crates -name '*.rt' -o -name '*.antt')
 WARN = -Wall -Wextra -Wpedantic -Wconversion -Wsign-conversion -Wshadow -Werror
 PLAIN = $(CC) -std=c99 -O2 $(WARN) -Iinclude -Itests/c
 CHECKED = $(CC) -std=c99 -O1 -g $(WARN) -fsanitize=address,undefined -fno-sanitize-recover=all -Iinclude -Itests/c
-COMPARE = $(addprefix tests/c/,compare.c examples.c inputs.c lend.c reference.c)
+COMPARE = $(addprefix tests/c/,by_name.c compare.c examples.c inputs.c lend.c reference.c)
 BENCH = $(addprefix tests/c/,bench.c bench_plain.c inputs.c reference.c)
 ENTRIES = kind read write read_minute write_minute unix_time outcome_at fill_outcomes correct_mark feed
 HEADERS = include/radio_clock.h $(wildcard tests/c/*.h)
@@ -43,12 +43,23 @@ target/staticlib/libradio_clock.a: $(CRATES)
 target/bin/list_times: $(CRATES)
 	@rt check list_times >&2
 
-c-test: c-header c-selftest c-plain fuzz c-collector c-install
+c-test: c-header c-header-lines c-stack c-selftest c-plain fuzz c-collector c-install
 
 c-header: $(LIBRARY)
 	@mkdir -p $(C)
-	$(CC) -std=c99 $(WARN) -Iinclude tests/c/header.c $(LIBRARY) -o $(C)/header-c && $(C)/header-c
-	$(CXX) -x c++ -std=c++11 $(WARN) -Iinclude tests/c/header.c -x none $(LIBRARY) -o $(C)/header-c++ && $(C)/header-c++
+	tests/c/header.sh $(LIBRARY) $(C) $(WARN)
+
+.PHONY: c-header-lines c-stack
+c-header-lines: $(LIBRARY)
+	CC="$(CC)" CXX="$(CXX)" tests/c/header_lines.py include/radio_clock.h tests/c/header.c $(LIBRARY)
+
+STACK = $(addprefix tests/c/,stack.c inputs.c reference.c)
+$(C)/stack: $(STACK) $(HEADERS) $(LIBRARY)
+	@mkdir -p $(C)
+	$(PLAIN) -Wl,-z,now $(STACK) $(LIBRARY) -o $@
+
+c-stack: $(C)/stack
+	$(C)/stack
 
 $(C)/compare: $(COMPARE) $(HEADERS) $(LIBRARY)
 	@mkdir -p $(C)

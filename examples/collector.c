@@ -14,10 +14,12 @@ static const char usage[] =
     "usage: collector [-s FILE | -e FILE | -m FILE]...\n"
     "  -s FILE   a serial line: Meinberg strings from STX to ETX, whatever stands between them\n"
     "  -e FILE   ELV strings, each ended by CR; LF after CR is passed over\n"
-    "  -m FILE   a DCF77 recording, one mark a byte: 0 short, 1 long, 2 gap, 3 unsure\n"
+    "  -m FILE   a DCF77 recording, one mark a byte: 0 short, 1 long, 2 gap, 3 unsure; bytes, not digits as text\n"
     "FILE may be - for standard input. The times of all files are sorted by UTC. What is refused goes to standard\n"
     "error with its place, counted from 0. The flags are #*S!ARL: unsynchronised, unverified, summer time, change\n"
     "of summer time announced, leap second announced, alternate antenna, second 60.\n";
+
+enum { STX = 2 };
 
 /* A clock time, and where it came from. */
 struct entry {
@@ -82,8 +84,8 @@ static uint8_t *read_file(const char *name, size_t *length)
     return bytes;
 }
 
-/* Reads one string, which stands at a place of the file. */
-static void collect_string(const char *file, size_t place, const uint8_t *s, size_t n)
+/* Reads one Meinberg string of any kind, which stands at a place of the file. */
+static void collect_meinberg(const char *file, size_t place, const uint8_t *s, size_t n)
 {
     struct radio_clock_time time;
     struct radio_clock_position position;
@@ -99,6 +101,8 @@ static void collect_serial(const char *file, const uint8_t *s, size_t n)
 {
     struct radio_clock_framer framer = RADIO_CLOCK_FRAMER_START;
     size_t place = 0;
+    if (n > 0 && memchr(s, STX, n) == NULL)
+        fprintf(stderr, "collector: %s: has no STX in it, so no Meinberg string; -e reads ELV strings\n", file);
     while (place < n) {
         size_t taken = 0;
         uint8_t event = radio_clock_framer_next(&framer, s + place, n - place, &taken);
@@ -107,26 +111,52 @@ static void collect_serial(const char *file, const uint8_t *s, size_t n)
             fprintf(stderr, "collector: %s: place %zu: overlong string dropped\n", file, place);
             refused++;
         } else if (event != 0) {
-            collect_string(file, place - event, framer.state, event);
+            collect_meinberg(file, place - event, framer.state, event);
         }
     }
 }
 
+/* The option names the kind, so a string of another kind is refused. */
 static void collect_elv(const char *file, const uint8_t *s, size_t n)
 {
     size_t place = 0;
+    bool meinberg = false;
     while (place < n) {
         const uint8_t *cr = memchr(s + place, '\r', n - place);
         size_t end = cr == NULL ? n : (size_t)(cr - s) + 1;
-        collect_string(file, place, s + place, end - place);
+        int32_t fields[RADIO_CLOCK_TIME_FIELDS];
+        int64_t unix_time;
+        uint8_t error = radio_clock_read(RADIO_CLOCK_ELV, s + place, end - place, fields, RADIO_CLOCK_TIME_FIELDS);
+        if (error == 0)
+            error = radio_clock_unix_time(fields, RADIO_CLOCK_TIME_FIELDS, &unix_time);
+        if (error == 0) {
+            struct radio_clock_time time = radio_clock_time_of(fields);
+            add_entry(file, &time, unix_time);
+        } else {
+            refuse(file, place, error);
+            meinberg = meinberg || s[place] == STX;
+        }
         place = end < n && s[end] == '\n' ? end + 1 : end;
     }
+    if (meinberg)
+        fprintf(stderr, "collector: %s: has Meinberg strings in it, which -s reads; -e reads ELV strings\n", file);
+}
+
+/* Whether a file has marks as text: nothing but the digits 0 to 3 and white space. */
+static bool is_text(const uint8_t *marks, size_t n)
+{
+    for (size_t i = 0; i < n; i++)
+        if (marks[i] == '\0' || strchr("0123 \t\r\n", marks[i]) == NULL)
+            return false;
+    return n > 0;
 }
 
 /* Each minute between two gaps. What stands before the first gap is no whole minute. */
 static void collect_marks(const char *file, const uint8_t *marks, size_t n)
 {
     const uint8_t *gap = n == 0 ? NULL : memchr(marks, RADIO_CLOCK_GAP, n);
+    if (is_text(marks, n))
+        stop(file, "these are digits as text; a recording has the bytes 0, 1, 2 and 3 themselves");
     while (gap != NULL) {
         struct radio_clock_time time;
         struct radio_clock_minute_detail detail;

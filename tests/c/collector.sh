@@ -40,6 +40,21 @@ collector: -: place 188: overlong string dropped
 collector: 4 times, 2 refused
 END
 
+# -e refuses Meinberg strings, and says what reads them; an ELV string beside them is read.
+printf '\002D:08.11.06;T:3;U:14.39.39;    \003\r\n06-11-08-14-39-40-00\r\n\00208.11.06; 3; 14:39:41;        \003' |
+    "$collector" -e - > "$work/out" 2> "$work/err"
+diff - "$work/out" << 'END'
+UTC                  local               zone   flags    file
+2006-11-08 13:39:40  2006-11-08 14:39:40 +01:00 -------  -
+END
+diff - "$work/err" << 'END'
+collector: -: place 0: refused 1: string length wrong for its kind
+collector: -: place 56: refused 1: string length wrong for its kind
+collector: -: has Meinberg strings in it, which -s reads; -e reads ELV strings
+collector: 1 times, 2 refused
+END
+"$collector" -s elv.bin 2>&1 > "$work/out" | grep -q 'elv.bin: has no STX in it, so no Meinberg string; -e reads'
+
 # Empty files, ELV strings with LF, and what is wrong with a call.
 : > "$work/empty"
 "$collector" -s "$work/empty" -e "$work/empty" -m "$work/empty" 2> "$work/err" | cmp - <(head -1 collector.txt)
@@ -60,6 +75,11 @@ fails 2 '^usage: ' "$collector"
 fails 2 '^usage: ' "$collector" -s
 fails 2 'no such option: -x' "$collector" -x "$work/empty"
 fails 1 'No such file' "$collector" -m "$work/none"
+tr '\000\001\002\003' 0123 < marks.bin > "$work/text"
+echo >> "$work/text"
+fails 1 'digits as text; a recording has the bytes 0, 1, 2 and 3' "$collector" -m "$work/text"
+{ cat "$work/text"; cat marks.bin; } > "$work/mixed"
+"$collector" -m "$work/mixed" 2> "$work/err" | grep -c 'mixed$' | grep -qx 4
 fails 1 'directory' "$collector" -m "$work"
 if [ -w /dev/full ]; then
     got=0

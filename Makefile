@@ -43,7 +43,7 @@ target/staticlib/libradio_clock.a: $(CRATES)
 target/bin/list_times: $(CRATES)
 	@rt check list_times >&2
 
-c-test: c-header c-header-lines c-stack c-selftest c-plain fuzz c-collector c-install
+c-test: c-header c-header-lines c-stack c-selftest c-plain fuzz c-collector c-logger c-install
 
 c-header: $(LIBRARY)
 	@mkdir -p $(C)
@@ -95,6 +95,16 @@ $(C)/collector: examples/collector.c include/radio_clock.h $(LIBRARY)
 	$(PLAIN) examples/collector.c $(LIBRARY) -o $@
 
 collector: $(C)/collector
+
+.PHONY: logger c-logger
+$(C)/logger: examples/logger.c include/radio_clock.h $(LIBRARY)
+	@mkdir -p $(C)
+	$(PLAIN) examples/logger.c $(LIBRARY) -o $@
+
+logger: $(C)/logger
+
+c-logger: $(C)/logger
+	python3 tests/logger.py $(C)/logger
 
 $(C)/samples: tests/c/samples.c tests/c/reference.c tests/c/reference.h
 	@mkdir -p $(C)

@@ -670,6 +670,15 @@ uint8_t plain_outcome_at(const uint8_t *marks, size_t n, size_t place, uint32_t 
     return 0;
 }
 
+uint8_t plain_outcome_unix_time(uint32_t outcome, int64_t *time)
+{
+    uint32_t sum = outcome - 100;
+    if (sum >= 32 * 1440 * 36525u)
+        return 23;
+    *time = 60 * (int64_t)(sum / 32) - 3600 - 450 * (int64_t)(sum & 8);
+    return 0;
+}
+
 uint8_t plain_fill_outcomes(const uint8_t *marks, size_t n, uint32_t *outcomes, size_t count)
 {
     if (count != n || n > LONGEST_TAPE)

@@ -16,6 +16,7 @@ uint8_t plain_outcome_at(const uint8_t *marks, size_t n, size_t place, uint32_t 
 uint8_t plain_fill_outcomes(const uint8_t *marks, size_t n, uint32_t *outcomes, size_t count);
 uint8_t plain_correct_mark(uint8_t *marks, size_t n, uint32_t *outcomes, size_t count, size_t place, uint8_t mark,
                            size_t *changed);
+uint8_t plain_outcome_unix_time(uint32_t outcome, int64_t *time);
 uint8_t plain_feed(uint8_t *state, size_t size, const uint8_t *s, size_t n, size_t limit, size_t *taken,
                    uint8_t *event);
 

@@ -20,11 +20,24 @@
 #include "reference.h"
 
 enum { LENT = 4, SMALL = 4000, ANSWERS = 24 };
-enum function { KIND, READ, WRITE, READ_MINUTE, WRITE_MINUTE, UNIX_TIME, OUTCOME_AT, FILL, CORRECT, FEED, FUNCTIONS };
+enum function {
+    KIND,
+    READ,
+    WRITE,
+    READ_MINUTE,
+    WRITE_MINUTE,
+    UNIX_TIME,
+    OUTCOME_AT,
+    OUTCOME_TIME,
+    FILL,
+    CORRECT,
+    FEED,
+    FUNCTIONS
+};
 
-static const char *const names[FUNCTIONS] = { "kind",         "read",      "write",      "read_minute",
-                                              "write_minute", "unix_time", "outcome_at", "fill_outcomes",
-                                              "correct_mark", "feed" };
+static const char *const names[FUNCTIONS] = { "kind",          "read",         "write",      "read_minute",
+                                              "write_minute",  "unix_time",    "outcome_at", "outcome_unix_time",
+                                              "fill_outcomes", "correct_mark", "feed" };
 
 static struct lent small[LENT], large_marks, large_outcomes;
 static uint64_t seed, number;
@@ -157,6 +170,32 @@ static void compare_write(uint8_t kind, const int32_t *fields, size_t count, siz
     compare_lent(WRITE, (const struct lent *[]){ &small[0], &small[1], &small[2] }, 3);
 }
 
+static void compare_outcome_time(uint32_t outcome)
+{
+    lend_any(&small[3], sizeof(int64_t));
+    compare_answers(OUTCOME_TIME, radio_clock_outcome_unix_time(outcome, (int64_t *)small[3].library),
+                    reference_outcome_unix_time(outcome, (int64_t *)small[3].reference));
+    compare_lent(OUTCOME_TIME, (const struct lent *[]){ &small[3] }, 1);
+}
+
+/* The time of the outcome at the gap after an accepted minute is the Unix time of what is read from the minute. */
+static void compare_announced(const uint8_t *marks, size_t n)
+{
+    uint8_t recording[62];
+    uint32_t outcome = 0;
+    int32_t fields[16];
+    int64_t announced = 0, time = 1;
+    if (n > 60 || radio_clock_read_minute(marks, n, fields, 16) != 0)
+        return;
+    recording[0] = recording[n + 1] = 2;
+    memcpy(recording + 1, marks, n);
+    if (radio_clock_outcome_at(recording, n + 2, n + 1, &outcome) != 0 ||
+        radio_clock_unix_time(fields, 16, &time) != 0 || radio_clock_outcome_unix_time(outcome, &announced) != 0 ||
+        announced != time)
+        fail(OUTCOME_TIME, "the outcome of a minute has another time than the minute");
+    compare_outcome_time(outcome);
+}
+
 static void compare_read_minute(const uint8_t *marks, size_t n, size_t room)
 {
     lend_bytes(&small[0], marks, n);
@@ -166,6 +205,7 @@ static void compare_read_minute(const uint8_t *marks, size_t n, size_t room)
                                           room));
     compare_lent(READ_MINUTE, (const struct lent *[]){ &small[0], &small[1] }, 2);
     compare_by_name(READ_MINUTE, by_name_minute(small[0].library, n));
+    compare_announced(small[0].library, n);
 }
 
 static void compare_write_minute(const int32_t *fields, size_t count, size_t room)
@@ -207,8 +247,11 @@ static void compare_outcome_at(struct lent *marks, size_t place)
         size_t start = place;
         while (start > 0 && marks->library[start - 1] != 2)
             start--;
-        if (start > 0 && marks->library[place] == 2)
+        if (start > 0 && marks->library[place] == 2) {
             compare_by_name(OUTCOME_AT, by_name_outcome(outcome, marks->library + start, place - start));
+            compare_announced(marks->library + start, place - start);
+        }
+        compare_outcome_time(outcome);
     }
 }
 
@@ -476,6 +519,28 @@ static void try_feed(void)
     } while (i < n);
 }
 
+enum { LAST_OUTCOME = 1683072099 }; /* the last of a minute of 2069 */
+
+/* A number that is an outcome, near the first or the last, of few bits, or any. */
+static void try_outcome(void)
+{
+    uint32_t any = (uint32_t)any_number(), near = (uint32_t)below(300);
+    switch (below(4)) {
+    case 0:
+        compare_outcome_time(near);
+        break;
+    case 1:
+        compare_outcome_time(LAST_OUTCOME - 150 + near);
+        break;
+    case 2:
+        compare_outcome_time(any >> below(32));
+        break;
+    default:
+        compare_outcome_time(one_in(2) ? any : 100 + any % (LAST_OUTCOME - 99));
+        break;
+    }
+}
+
 static void try_case(uint64_t case_number)
 {
     number = case_number;
@@ -493,8 +558,10 @@ static void try_case(uint64_t case_number)
         try_minute();
     else if (choice < 91)
         try_minute_fields();
-    else if (choice < 96)
+    else if (choice < 95)
         try_recording();
+    else if (choice < 97)
+        try_outcome();
     else
         try_feed();
 }
@@ -579,9 +646,22 @@ static void sweep_lengths(void)
             try_recording_of(n, count);
 }
 
+/* The first and the last outcomes, one of each day's first minute, and the largest numbers. */
+static void sweep_outcomes(void)
+{
+    for (uint32_t i = 0; i < 1000; i++) {
+        compare_outcome_time(i);
+        compare_outcome_time(LAST_OUTCOME - 500 + i);
+        compare_outcome_time(UINT32_MAX - i);
+    }
+    for (uint32_t day = 0; day < 36525; day++)
+        compare_outcome_time(100 + 32 * 1440 * day + day % 32);
+}
+
 static void sweep(void)
 {
     inputs_seed(seed, number);
+    sweep_outcomes();
     sweep_strings();
     sweep_minutes();
     sweep_days();
@@ -595,7 +675,7 @@ static void print_answers(void)
     unsigned long of_numbers[ANSWERS] = { 0 };
     printf("%lu calls compared\n", inputs);
     for (int f = 0; f < FUNCTIONS; f++) {
-        printf("%-13s accepted %lu", names[f], answers[f][0]);
+        printf("%-17s accepted %lu", names[f], answers[f][0]);
         for (int i = 1; i < ANSWERS; i++) {
             of_numbers[i] += answers[f][i];
             if (answers[f][i] > 0)
@@ -603,13 +683,13 @@ static void print_answers(void)
         }
         printf("\n");
     }
-    printf("%-13s accepted %lu", "outcomes", outcomes_seen[20]);
+    printf("%-17s accepted %lu", "outcomes", outcomes_seen[20]);
     for (int i = 0; i < 20; i++) {
         of_numbers[i] += outcomes_seen[i];
         if (outcomes_seen[i] > 0)
             printf(", %d: %lu", i, outcomes_seen[i]);
     }
-    printf("\n%-13s nothing yet %lu, complete %lu, dropped %lu\n", "events", events_seen[0], events_seen[1],
+    printf("\n%-17s nothing yet %lu, complete %lu, dropped %lu\n", "events", events_seen[0], events_seen[1],
            events_seen[2]);
     for (int i = 1; i < ANSWERS; i++) {
         if (of_numbers[i] == 0) {

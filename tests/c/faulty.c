@@ -124,6 +124,26 @@ uint8_t radio_clock_outcome_at(const uint8_t *marks, size_t n, size_t place, uin
     return error;
 }
 
+uint8_t radio_clock_outcome_unix_time(uint32_t outcome, int64_t *time)
+{
+    if (fault() == 37 && outcome == 1683072100) /* one minute after the last */
+        outcome -= 32;
+    if (fault() == 38 && outcome == 99) /* an error taken for a minute */
+        outcome = 100;
+    uint8_t error = reference_outcome_unix_time(outcome, time);
+    if (fault() == 39 && error == 0) /* local time taken for UTC */
+        *time += (outcome - 100) / 8 % 2 == 1 ? 7200 : 3600;
+    if (fault() == 40 && error == 0 && (outcome - 100) / 8 % 2 == 1) /* summer time an hour late */
+        *time += 3600;
+    if (fault() == 41 && error == 0 && *time < 0) /* no time before 1970 UTC */
+        return 23;
+    if (fault() == 42 && error == 23) /* a time although refused */
+        *time = 0;
+    if (fault() == 43 && error == 0) /* seconds in 32 bits */
+        *time = (int32_t)*time;
+    return error;
+}
+
 uint8_t radio_clock_fill_outcomes(const uint8_t *marks, size_t n, uint32_t *outcomes, size_t count)
 {
     uint8_t error = reference_fill_outcomes(REFERENCE_FIRST_YEAR, marks, n, outcomes, count);

@@ -324,6 +324,10 @@ static void check_outcomes(void)
     for (uint32_t minutes = 0; minutes < 52596000; minutes += 4045841) {
         for (uint32_t five = 0; five < 32; five++) {
             uint32_t outcome = 100 + 32 * minutes + five;
+            int64_t time = 0;
+            check(radio_clock_outcome_unix_time(outcome, &time) == 0 &&
+                      time == 60 * ((int64_t)minutes - radio_clock_outcome_utc_offset(outcome)),
+                  "the Unix time of outcome", (long)outcome);
             check(radio_clock_outcome_minutes(outcome) == minutes, "the minutes of outcome", (long)outcome);
             check(radio_clock_outcome_sixty_marks(outcome) == (five >= 16), "60 marks of outcome", (long)outcome);
             check(radio_clock_outcome_utc_offset(outcome) == (five % 16 >= 8 ? 120 : 60), "the UTC offset of outcome",

@@ -777,6 +777,23 @@ uint8_t reference_outcome_at(int32_t first_year, const uint8_t *marks, size_t n,
     return 0;
 }
 
+/* The instant that an accepted minute announces, from its number on the sheet: "100 + 32 L + 16 (run of 60) + 8 (offset
+ * 120) + 4 antenna + 2 change + 1 leap, where L is local minutes from 1970-01-01 00:00". A number below 100 is no
+ * accepted minute's, and a minute after the last of 2069 is none either: 23. */
+uint8_t reference_outcome_unix_time(uint32_t outcome, int64_t *time)
+{
+    if (outcome < 100)
+        return 23;
+    uint32_t sum = outcome - 100;
+    int64_t minutes = sum / 32, offset = 60;
+    if (sum / 8 % 2 == 1)
+        offset = 120;
+    if (minutes >= 24 * 60 * (int64_t)days_since_1970(2070, 1, 1))
+        return 23;
+    *time = 60 * (minutes - offset);
+    return 0;
+}
+
 uint8_t reference_fill_outcomes(int32_t first_year, const uint8_t *marks, size_t n, uint32_t *outcomes, size_t count)
 {
     /* 20: "sheet and tape lengths differ, tape over 100,000" */

@@ -24,6 +24,7 @@ uint8_t reference_outcome_at(int32_t first_year, const uint8_t *marks, size_t n,
 uint8_t reference_fill_outcomes(int32_t first_year, const uint8_t *marks, size_t n, uint32_t *outcomes, size_t count);
 uint8_t reference_correct_mark(int32_t first_year, uint8_t *marks, size_t n, uint32_t *outcomes, size_t count,
                                size_t place, uint8_t mark, size_t *changed);
+uint8_t reference_outcome_unix_time(uint32_t outcome, int64_t *time);
 uint8_t reference_feed(uint8_t *state, size_t size, const uint8_t *s, size_t n, size_t limit, size_t *taken,
                        uint8_t *event);
 

@@ -20,15 +20,16 @@ enum function {
     WRITE_MINUTE,
     UNIX_TIME,
     OUTCOME_AT,
+    OUTCOME_TIME,
     FILL,
     CORRECT,
     FEED,
     FUNCTIONS
 };
 
-static const char *const names[FUNCTIONS] = { "nothing",       "kind",         "read",      "write",
-                                              "read_minute",   "write_minute", "unix_time", "outcome_at",
-                                              "fill_outcomes", "correct_mark", "feed" };
+static const char *const names[FUNCTIONS] = { "nothing",           "kind",          "read",         "write",
+                                              "read_minute",       "write_minute",  "unix_time",    "outcome_at",
+                                              "outcome_unix_time", "fill_outcomes", "correct_mark", "feed" };
 
 static uint8_t stack[STACK];
 static ucontext_t here, there;
@@ -61,6 +62,8 @@ static uint8_t call(void)
         return radio_clock_unix_time(fields, count, &time);
     case OUTCOME_AT:
         return radio_clock_outcome_at(bytes, length, place, &outcome);
+    case OUTCOME_TIME:
+        return radio_clock_outcome_unix_time(outcomes[0], &time);
     case FILL:
         return radio_clock_fill_outcomes(bytes, length, outcomes, length);
     case CORRECT:
@@ -98,6 +101,7 @@ static void make_inputs(void)
     int format = (int)below(4);
     kind = (uint8_t)format;
     place = 0;
+    outcomes[0] = (uint32_t)any_number() >> below(32);
     count = fields_of(format);
     memset(fields, 0, sizeof fields);
     if (function == KIND || function == READ) {
@@ -137,7 +141,7 @@ int main(void)
             if (taken > most[f])
                 most[f] = taken;
         }
-        printf("%-13s %4zu bytes of stack\n", names[f], most[f]);
+        printf("%-17s %4zu bytes of stack\n", names[f], most[f]);
         right = right && most[f] < SAID && (f == NOTHING || most[f] > most[NOTHING]);
     }
     puts(right ? "each call takes less stack than the header says" : "the header says another stack");

@@ -1,5 +1,6 @@
 #!/usr/bin/env python3
-"""Runs the listing program and compares what it writes with a listing in plain Python, made from document 01.
+"""Runs the listing program and compares what it writes with a listing in plain Python, made from document 01; tries its
+arguments, terminals in both modes, and what can fail.
 
 Usage: list_times.py PROGRAM [CAPTURE]
        list_times.py --capture > samples/capture.bin
@@ -7,9 +8,13 @@ Usage: list_times.py PROGRAM [CAPTURE]
 import os
 import pty
 import random
+import re
 import select
+import signal
 import subprocess
 import sys
+import tempfile
+import termios
 import threading
 import tty
 
@@ -18,6 +23,8 @@ from string_vectors import GPS, NO_SUCH_HOUR, STANDARD, put, random_text
 
 STX, ETX = 2, 3
 HEADING = b"time zone flags\n"
+USAGE = b"usage: list_times [FILE | - | --help | --version]\n"
+HEADER = os.path.join(os.path.dirname(__file__), "..", "include", "radio_clock.h")
 SECONDS = 20  # longer than any run here takes
 STREAMS = 150  # random ones
 
@@ -153,14 +160,19 @@ def expect(name, got, want):
         sys.exit(f"{name}: wrote {got[-300:]!r}\nwhere it must write {want[-300:]!r}")
 
 
-def run(program, data):
-    return subprocess.run([program], input=data, capture_output=True, timeout=SECONDS)
+def run(program, data, *arguments):
+    return subprocess.run([program, *arguments], input=data, capture_output=True, timeout=SECONDS)
+
+
+def expect_run(name, done, output, error=b""):
+    """What a run wrote to standard output and to standard error; its exit status is 0, as the kit has no other."""
+    expect(name, done.stdout, output)
+    expect(name + ", standard error", done.stderr, error)
+    expect(name + ", exit status", b"%d" % done.returncode, b"0")
 
 
 def compare(program, name, data):
-    done = run(program, data)
-    expect(name, done.stdout, listing(data))
-    expect(name + ", standard error", done.stderr, b"")
+    expect_run(name, run(program, data), listing(data))
 
 
 def peak_memory(program, data):
@@ -244,12 +256,22 @@ def unreadable_input(program):
     """Reading fails at once: the message, and the totals."""
     directory = os.open("/", os.O_RDONLY)
     done = subprocess.run([program], stdin=directory, capture_output=True, timeout=SECONDS)
-    expect("a directory", done.stdout, listing(b""))
-    expect("a directory, standard error", done.stderr, b"standard input: Is a directory\n")
+    expect_run("a directory", done, listing(b""), b"list_times: standard input: Is a directory\n")
 
 
-def failing_read(program):
-    """Reading fails after some strings, as on a line that hangs up: they are listed, and counted."""
+def terminal_note(name, line):
+    return b"list_times: %s is a terminal: it must be raw, or its strings are lost (stty -F %s 9600 raw -echo)\n" % (
+        name,
+        line,
+    )
+
+
+INPUT_NOTE = terminal_note(b"standard input", b"/dev/ttyS0")
+
+
+def raw_terminal(program):
+    """A raw terminal as standard input: strings are listed as they come. Then the line hangs up, and a read fails: what
+    came before is counted."""
     reader, line = pty.openpty()
     tty.setraw(line)
     child = subprocess.Popen([program], stdin=reader, stdout=subprocess.PIPE, stderr=subprocess.PIPE)
@@ -258,8 +280,104 @@ def failing_read(program):
     read_until(child.stdout, HEADING + lines(data)[0], "before the failing read")
     os.close(line)
     out, err = child.communicate(timeout=SECONDS)
+    os.close(reader)
     expect("failing read", out, totals_line((2, 1, 0)))
-    expect("failing read, standard error", err, b"standard input: Input/output error\n")
+    expect("failing read, standard error", err, INPUT_NOTE + b"list_times: standard input: Input/output error\n")
+
+
+def raw_terminal_by_name(program):
+    """A raw terminal that is named: each string is listed as it comes, and what is said has its own name."""
+    line, terminal = pty.openpty()
+    tty.setraw(terminal)
+    name = os.ttyname(terminal)
+    child = subprocess.Popen([program, name], stdin=subprocess.DEVNULL, stdout=subprocess.PIPE, stderr=subprocess.PIPE)
+    read_until(child.stdout, HEADING, "a terminal by name")
+    for string in (STANDARD, NO_SUCH_HOUR, GPS):
+        os.write(line, string[:10])
+        os.write(line, string[10:])
+        read_until(child.stdout, lines(string)[0], "a terminal by name")
+    child.kill()
+    expect("a terminal by name, standard error", child.communicate()[1], terminal_note(name.encode(), name.encode()))
+    os.close(terminal)
+    os.close(line)
+
+
+def cooked_terminal(program):
+    """A terminal that is not raw: the same is said. It has no signals here, so that ETX is no interrupt and the string
+    comes through at the end of the input, and no echo."""
+    line, terminal = pty.openpty()
+    mode = termios.tcgetattr(terminal)
+    mode[3] &= ~(termios.ISIG | termios.ECHO)
+    termios.tcsetattr(terminal, termios.TCSANOW, mode)
+    child = subprocess.Popen([program], stdin=terminal, stdout=subprocess.PIPE, stderr=subprocess.PIPE)
+    os.write(line, STANDARD + b"\x04\x04")
+    out, err = child.communicate(timeout=SECONDS)
+    expect("a terminal that is not raw", out, listing(STANDARD))
+    expect("a terminal that is not raw, standard error", err, INPUT_NOTE)
+    os.close(terminal)
+    os.close(line)
+
+
+def default_terminal(program):
+    """A controlling terminal in its default mode: that is said, ETX interrupts the program, and no string is listed."""
+    child, line = pty.fork()
+    if child == 0:
+        os.execv(program, [program])
+    with os.fdopen(line, "r+b", buffering=0) as stream:
+        read_until(stream, (INPUT_NOTE + HEADING).replace(b"\n", b"\r\n"), "a terminal in its default mode")
+        stream.write(STANDARD)
+        echo = b""
+        while select.select([stream], [], [], SECONDS)[0]:
+            try:
+                echo += os.read(line, 4096)
+            except OSError:  # the program has ended
+                break
+        else:
+            os.kill(child, signal.SIGKILL)
+    _, status = os.waitpid(child, 0)
+    if lines(STANDARD)[0].rstrip() in echo or not os.WIFSIGNALED(status) or os.WTERMSIG(status) != signal.SIGINT:
+        sys.exit(f"a terminal in its default mode: wrote {echo!r} and ended with status {status}")
+
+
+def files(program):
+    """A file by its name, standard input by a dash, and files that can't be read."""
+    data, other = capture(), GPS + STANDARD
+    with tempfile.TemporaryDirectory() as folder:
+        name = os.path.join(folder, "a capture")
+        with open(name, "wb") as file:
+            file.write(data)
+        expect_run("a file", run(program, other, name), listing(data))
+        expect_run("a dash", run(program, other, "-"), listing(other))
+        missing = os.path.join(folder, "missing")
+        error = b"list_times: %s: No such file or directory\n" % missing.encode()
+        expect_run("a missing file", run(program, other, missing), b"", error)
+        error = b"list_times: %s: Is a directory\n" % folder.encode()
+        expect_run("a folder", run(program, other, folder), listing(b""), error)
+    longest = "x" * 4096
+    error = b"list_times: %s: File name too long\n" % longest.encode()
+    expect_run("a name of 4096 bytes", run(program, other, longest), b"", error)
+    expect_run("a name of 4097 bytes", run(program, other, longest + "x"), b"", b"list_times: File name too long\n")
+
+
+def header_version():
+    with open(HEADER, encoding="utf-8") as file:
+        found = re.findall(r'^#define RADIO_CLOCK_VERSION "(.*)"$', file.read(), re.MULTILINE)
+    if len(found) != 1:
+        sys.exit("include/radio_clock.h must define RADIO_CLOCK_VERSION once")
+    return found[0].encode()
+
+
+def told(program):
+    """--version has the header's version; --help tells the whole of it; all else gets the usage line."""
+    expect_run("--version", run(program, STANDARD, "--version"), b"list_times %s\n" % header_version())
+    done = run(program, STANDARD, "--help")
+    expect_run("--help", done, done.stdout)
+    for part in ("--version", "#*S!ARL", "refused N", "dropped", "stty -F /dev/ttyS0 9600 raw -echo && list_times"):
+        if part.encode() not in done.stdout:
+            sys.exit(f"--help does not tell {part}")
+    wrong = [[word] for word in ("--hel", "--helpp", "--help ", "--versio", "-h", "-v", "--", "---", "-capture", "")]
+    for arguments in wrong + [["-", "-"], ["--help", "-"], ["--version", "--help"], ["a", "b", "c"]]:
+        expect_run(f"arguments {arguments}", run(program, STANDARD, *arguments), b"", USAGE)
 
 
 def main(program, sample=None):
@@ -274,12 +392,18 @@ def main(program, sample=None):
     large_input(program)
     single_bytes(program)
     shown_at_once(program)
-    failing_write(program, "closed output", closed_output, b"standard output: Bad file descriptor\n")
-    failing_write(program, "full output", full_output, b"standard output: No space left on device\n")
+    failing_write(program, "closed output", closed_output, b"list_times: standard output: Bad file descriptor\n")
+    failing_write(program, "full output", full_output, b"list_times: standard output: No space left on device\n")
     unreadable_input(program)
-    failing_read(program)
+    raw_terminal(program)
+    raw_terminal_by_name(program)
+    cooked_terminal(program)
+    default_terminal(program)
+    files(program)
+    told(program)
     count = len(CASES) + STREAMS
-    print(f"list_times: {count} inputs, the sample, 10 MB, single bytes, live lines and 4 failures as they must be")
+    parts = "the sample, 10 MB, single bytes, live lines, terminals, files, arguments and failures"
+    print(f"list_times: {count} inputs, {parts} as they must be")
 
 
 if __name__ == "__main__":

@@ -1,2 +1,3 @@
--- Laws of the program's listing.
+-- Laws of the program's listing and of its arguments.
 pub mod ProgressLaws
+pub mod RequestLaws

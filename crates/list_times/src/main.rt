@@ -1,9 +1,12 @@
-// Lists the strings on standard input: a heading, a line for each string, and the totals. The lines of what has come
-// are written after each read. A failure to read or write is told on standard error.
+// Lists the strings on standard input or in a file: a heading, a line for each string, and the totals. The lines of
+// what has come are written after each read. A failure to read or write is told on standard error.
+mod output;
+mod request;
+
 use clock_time::WriteAnswer;
 use libc::STDIN_FILENO;
-use libc::STDOUT_FILENO;
 use listing::Listing;
+use request::Request;
 ghost use mathlib.Core.Path.{_≡_};
 ghost use Prim.Native.Nat.{_≤_};
 ghost use lib.ListN.{length};
@@ -26,27 +29,18 @@ struct Part {
     is_written: bool,
 }
 
-// Writes text; says so and answers false if that fails.
-fn write(text: &[u8]) -> bool {
-    let is_written = io::write_all(STDOUT_FILENO, text);
-    if !is_written {
-        os::fail(b"standard output");
-    }
-    is_written
-}
-
 // Writes the first n bytes of out.
 fn write_start(out: &[u8], n: usize) -> bool
     requires { ⌜ n ≤ length (now out) ⌝ }
 {
-    write(&out[..n])
+    output::write(&out[..n])
 }
 
 // Writes the heading.
 fn write_heading(text: &[u8]) -> bool
     requires { ⌜ now text ≡ ascii "time zone flags\n" ⌝ }
 {
-    write(text)
+    output::write(text)
 }
 
 // Writes the first n bytes of out, which are the text of the bytes s after `listing`. Of these two only the `requires`
@@ -103,20 +97,22 @@ fn write_lines(state: State, s: &[u8], out: &mut [u8; 65536]) -> State
     }
 }
 
-// Reads once, and answers how many bytes came: none at the input's end, and if the read fails, which it says.
-fn read_some(buf: &mut [u8; 65536]) -> usize
+// Reads once from fd, and answers how many bytes came: none at the input's end, and if the read fails, which it says by
+// the input's name.
+fn read_some(fd: i32, name: &[u8], buf: &mut [u8; 65536]) -> usize
     ensures { λ r. ⌜ Counts r (now (buf .exit)) ⌝ }
 {
-    let got = libc::read(STDIN_FILENO, buf);
+    let got = libc::read(fd, buf);
     if got < 0 {
-        os::fail(b"standard input");
+        output::fail(name);
     }
     io::count(got, buf)
 }
 
-// Reads to the input's end and writes the lines of what comes, as long as writing does not fail. A proved loop has to
-// end, and nothing says that the input does. So the loop counts its turns down, from a number that no run uses up.
-fn list_input(start: State) -> State
+// Reads from fd to the input's end and writes the lines of what comes, as long as writing does not fail. A proved loop
+// has to end, and nothing says that the input does. So the loop counts its turns down, from a number that no run uses
+// up.
+fn list_input(fd: i32, name: &[u8], start: State) -> State
     ensures { λ r. ⌜ Reaches (start .listing) (r .listing) ⌝ }
 {
     let mut buf = io::large_buffer();
@@ -124,7 +120,7 @@ fn list_input(start: State) -> State
     let mut state = start;
     let mut turns = u64::MAX;
     while turns > 0 && state.is_open {
-        let n = read_some(&mut buf);
+        let n = read_some(fd, name, &mut buf);
         if n == 0 {
             return state;
         }
@@ -144,12 +140,47 @@ fn write_totals(end: Listing) -> bool {
     }
 }
 
-fn main() {
+// Lists what comes from fd.
+fn list(fd: i32, name: &[u8]) {
     let is_open = write_heading(b"time zone flags\n");
     let listing = Listing::new();
-    let end = list_input(State { listing, is_open });
+    let end = list_input(fd, name, State { listing, is_open });
     if end.is_open {
         let listing = end.listing;
         write_totals(listing);
+    }
+}
+
+// Lists standard input.
+fn list_standard_input() {
+    output::tell_terminal(STDIN_FILENO, b"standard input", b"/dev/ttyS0");
+    list(STDIN_FILENO, b"standard input");
+}
+
+// Lists the file at path, or says why it can't be opened.
+fn list_file(path: &[u8]) {
+    let fd = os::open_read(path);
+    if fd < 0 {
+        output::fail(path);
+        return;
+    }
+    output::tell_terminal(fd, path, path);
+    list(fd, path);
+    libc::close(fd);
+}
+
+fn main() {
+    let mut first = io::buffer();
+    let n = os::arg(1, &mut first);
+    if os::errno() == libc::ENAMETOOLONG {
+        os::fail(b"list_times");
+        return;
+    }
+    match request::read_request(os::arg_count(), &first[..n]) {
+        Request::ListInput => list_standard_input(),
+        Request::ListFile => list_file(&first[..n]),
+        Request::Help => output::tell_help(),
+        Request::Version => output::tell_version(),
+        Request::Misused => output::tell_usage(),
     }
 }

@@ -10,10 +10,10 @@ use Rattle.list_times.proofs.list_input.Statement.{statement}
 use Rattle.list_times.proofs.list_input.Tie as tie
 
 abbrev Inv-loop : tie.InvT-loop
-Inv-loop buf₀ out₀ state₀ turns₀ buf out state turns = Reaches (state₀ .listing) (state .listing)
+Inv-loop fd name buf₀ out₀ state₀ turns₀ buf out state turns = Reaches (state₀ .listing) (state .listing)
 
 abbrev μ-loop : tie.MeasureT-loop
-μ-loop buf₀ out₀ state₀ turns₀ buf out state turns = turns
+μ-loop fd name buf₀ out₀ state₀ turns₀ buf out state turns = turns
 
 loop-holds : tie.Need-loop-holds Inv-loop μ-loop
 unfolding after

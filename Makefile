@@ -1,12 +1,17 @@
-# make test                proves and runs everything from nothing
-# make list FILE=...       proves and builds the listing program, and lists FILE
-# make outside             the tests that are not Rattle's: the listing program and the C side
-# make c-test              the header, the comparison with plain C, its self test, the benchmark's plain C compared, the
-#                          collector, what is installed
-# make fuzz N=... SEED=... the comparison with plain C on N random cases
-# make bench               prints docs/BENCHMARKS.md
-# make collector           target/c/collector
-# make install PREFIX=...  program, library, header and pkg-config file
+# make                      this page
+# make test                 30 min   proves and runs everything from nothing; the last line is 'N passed, 0 failed'
+# make list FILE=...         3 min*  the program lists FILE, or samples/capture.bin
+# make library               5 min*  target/staticlib/libradio_clock.a
+# make collector             5 min*  target/c/collector
+# make install PREFIX=...    5 min*  puts program, library, header and pkg-config file below PREFIX
+# make outside               6 min*  the tests that are not Rattle's: program, C side, commands
+# make c-test                6 min*  those of the C side alone
+# make fuzz N=... SEED=...   5 min*  the comparison with plain C, on N random cases
+# make bench                 6 min*  prints docs/BENCHMARKS.md
+# make clean                 1 s     removes target/
+#
+# Durations are about those of two cores. * is the first time: what it needs is proved, which shows a line for each
+# crate and leaves all that the prover says in target/prove.log. The next time it takes a minute at most.
 FILE ?= samples/capture.bin
 PREFIX ?= /usr/local
 VERSION ?= 0.1.0
@@ -14,7 +19,7 @@ N ?= 2000000
 LIBRARY ?= target/staticlib/libradio_clock.a
 LIST_TIMES ?= target/bin/list_times
 C = target/c
-CRATES = crates.txt $(shell find crates -name '*.rt' -o -name '*.antt')
+CRATES = kit-version crates.txt $(shell find crates -name '*.rt' -o -name '*.antt')
 WARN = -Wall -Wextra -Wpedantic -Wconversion -Wsign-conversion -Wshadow -Werror
 PLAIN = $(CC) -std=c99 -O2 $(WARN) -Iinclude -Itests/c
 CHECKED = $(CC) -std=c99 -O1 -g $(WARN) -fsanitize=address,undefined -fno-sanitize-recover=all -Iinclude -Itests/c
@@ -23,25 +28,42 @@ BENCH = $(addprefix tests/c/,bench.c bench_plain.c inputs.c reference.c)
 ENTRIES = kind read write read_minute write_minute unix_time outcome_at outcome_unix_time fill_outcomes correct_mark feed
 HEADERS = include/radio_clock.h $(wildcard tests/c/*.h)
 
+.DEFAULT_GOAL = help
+.DELETE_ON_ERROR:
+MAKEFLAGS += --no-print-directory
+# What takes target/ away runs alone, whatever -j says. Proving runs one at a time, which tools/prove sees to.
+ifneq ($(filter test clean,$(MAKECMDGOALS)),)
+.NOTPARALLEL:
+endif
+
+.PHONY: help clean commands-test
 .PHONY: test list outside c-test c-header fuzz c-selftest c-plain bench collector c-collector samples install \
         c-install library
 
+help:
+	@sed -n '/^#/!q; s/^# \{0,1\}//p' Makefile
+
 test:
-	bash .ci/run
+	@MAKEFLAGS='$(filter-out -j% --jobserver%,$(MAKEFLAGS))' tools/prove bash .ci/run
+
+clean:
+	rm -rf target
 
 list: target/bin/list_times
-	@target/bin/list_times < "$(FILE)"
+	@target/bin/list_times "$(FILE)"
 
-outside: c-test $(LIST_TIMES)
+outside: c-test commands-test $(LIST_TIMES)
 	python3 tests/list_times.py $(LIST_TIMES) samples/capture.bin
 
 # rt proves the crates below, then the library or the program. The C API is two crates; their archives are joined.
 library: $(LIBRARY)
 target/staticlib/libradio_clock.a: $(CRATES)
-	@rt staticlib c_readings >&2 && rt staticlib c_recordings >&2
+	@tools/prove rt staticlib c_readings >&2
+	@tools/prove rt staticlib c_recordings >&2
 	@printf 'create %s\naddlib %s\naddlib %s\nsave\n' $@ $(@D)/libc_readings.a $(@D)/libc_recordings.a | $(AR) -M
 target/bin/list_times: $(CRATES)
-	@rt check list_times >&2
+	@tools/prove rt check list_times >&2
+	@touch -c $@
 
 c-test: c-header c-header-lines c-stack c-selftest c-plain fuzz c-collector c-logger c-install
 
@@ -127,3 +149,6 @@ install: $(LIBRARY) $(LIST_TIMES)
 
 c-install: $(LIBRARY) $(LIST_TIMES)
 	tests/c/install.sh "$(MAKE) LIBRARY=$(LIBRARY) LIST_TIMES=$(LIST_TIMES)"
+
+commands-test:
+	tests/commands.sh

@@ -3,7 +3,9 @@
 # make list FILE=...         3 min*  the program lists FILE, or samples/capture.bin
 # make library               5 min*  target/staticlib/libradio_clock.a
 # make collector             5 min*  target/c/collector
-# make install PREFIX=...    5 min*  puts program, library, header and pkg-config file below PREFIX
+# make install PREFIX=...    5 min*  puts program, library, header, pkg-config file and man pages below PREFIX, or into
+#                                    BINDIR, LIBDIR, INCLUDEDIR and MANDIR, all below DESTDIR
+# make uninstall PREFIX=...  1 s     removes what make install puts there
 # make outside               6 min*  the tests that are not Rattle's: program, C side, commands
 # make c-test                6 min*  those of the C side alone
 # make fuzz N=... SEED=...   5 min*  the comparison with plain C, on N random cases
@@ -14,7 +16,10 @@
 # crate and leaves all that the prover says in target/prove.log. The next time it takes a minute at most.
 FILE ?= samples/capture.bin
 PREFIX ?= /usr/local
-VERSION ?= 0.1.0
+BINDIR ?= $(PREFIX)/bin
+LIBDIR ?= $(PREFIX)/lib
+INCLUDEDIR ?= $(PREFIX)/include
+MANDIR ?= $(PREFIX)/share/man
 N ?= 2000000
 LIBRARY ?= target/staticlib/libradio_clock.a
 LIST_TIMES ?= target/bin/list_times
@@ -28,6 +33,16 @@ BENCH = $(addprefix tests/c/,bench.c bench_plain.c inputs.c reference.c)
 ENTRIES = kind read write read_minute write_minute unix_time outcome_at outcome_unix_time fill_outcomes correct_mark feed
 HEADERS = include/radio_clock.h $(wildcard tests/c/*.h)
 
+# The version stands in the header and nowhere else.
+VERSION = $(or $(shell sed -n 's/^.define RADIO_CLOCK_VERSION "\(.*\)"$$/\1/p' include/radio_clock.h),\
+               $(error include/radio_clock.h defines no RADIO_CLOCK_VERSION))
+MANUALS = $(wildcard docs/man/*.[1-9])
+INSTALLED = $(BINDIR)/list_times $(LIBDIR)/libradio_clock.a $(LIBDIR)/pkgconfig/radio_clock.pc \
+            $(INCLUDEDIR)/radio_clock.h \
+            $(foreach page,$(MANUALS),$(MANDIR)/man$(subst .,,$(suffix $(page)))/$(notdir $(page)))
+# A folder as the pkg-config file names it.
+below_prefix = $(patsubst $(PREFIX)/%,$${prefix}/%,$(1))
+
 .DEFAULT_GOAL = help
 .DELETE_ON_ERROR:
 MAKEFLAGS += --no-print-directory
@@ -36,7 +51,7 @@ ifneq ($(filter test clean,$(MAKECMDGOALS)),)
 .NOTPARALLEL:
 endif
 
-.PHONY: help clean commands-test
+.PHONY: help clean uninstall commands-test
 .PHONY: test list outside c-test c-header fuzz c-selftest c-plain bench collector c-collector samples install \
         c-install library
 
@@ -140,12 +155,18 @@ c-collector: $(C)/collector $(C)/samples
 	tests/c/collector.sh $(C)/collector $(C)/samples
 
 install: $(LIBRARY) $(LIST_TIMES)
-	install -d $(DESTDIR)$(PREFIX)/bin $(DESTDIR)$(PREFIX)/lib/pkgconfig $(DESTDIR)$(PREFIX)/include
-	install -m 755 $(LIST_TIMES) $(DESTDIR)$(PREFIX)/bin/list_times
-	install -m 644 $(LIBRARY) $(DESTDIR)$(PREFIX)/lib/libradio_clock.a
-	install -m 644 include/radio_clock.h $(DESTDIR)$(PREFIX)/include/radio_clock.h
-	sed 's|@PREFIX@|$(PREFIX)|; s|@VERSION@|$(VERSION)|' radio_clock.pc.in \
-	    > $(DESTDIR)$(PREFIX)/lib/pkgconfig/radio_clock.pc
+	install -d $(sort $(dir $(addprefix $(DESTDIR),$(INSTALLED))))
+	install -m 755 $(LIST_TIMES) $(DESTDIR)$(BINDIR)/list_times
+	install -m 644 $(LIBRARY) $(DESTDIR)$(LIBDIR)/libradio_clock.a
+	install -m 644 include/radio_clock.h $(DESTDIR)$(INCLUDEDIR)/radio_clock.h
+	sed -e 's|@PREFIX@|$(PREFIX)|' -e 's|@LIBDIR@|$(call below_prefix,$(LIBDIR))|' -e 's|@VERSION@|$(VERSION)|' \
+	    -e 's|@INCLUDEDIR@|$(call below_prefix,$(INCLUDEDIR))|' radio_clock.pc.in \
+	    > $(DESTDIR)$(LIBDIR)/pkgconfig/radio_clock.pc
+	chmod 644 $(DESTDIR)$(LIBDIR)/pkgconfig/radio_clock.pc
+	for page in $(MANUALS); do install -m 644 $$page $(DESTDIR)$(MANDIR)/man$${page##*.}/; done
+
+uninstall:
+	rm -f $(addprefix $(DESTDIR),$(INSTALLED))
 
 c-install: $(LIBRARY) $(LIST_TIMES)
 	tests/c/install.sh "$(MAKE) LIBRARY=$(LIBRARY) LIST_TIMES=$(LIST_TIMES)"

@@ -6,7 +6,8 @@
 # make install PREFIX=...    5 min*  puts program, library, header, pkg-config file and man pages below PREFIX, or into
 #                                    BINDIR, LIBDIR, INCLUDEDIR and MANDIR, all below DESTDIR
 # make uninstall PREFIX=...  1 s     removes what make install puts there
-# make outside               6 min*  the tests that are not Rattle's: program, C side, commands
+# make dist                  5 min*  target/dist/umrikhosh-VERSION-x86_64-linux.tar.gz
+# make outside               6 min*  the tests that are not Rattle's: program, C side, commands, archive
 # make c-test                6 min*  those of the C side alone
 # make fuzz N=... SEED=...   5 min*  the comparison with plain C, on N random cases
 # make bench                 6 min*  prints docs/BENCHMARKS.md
@@ -42,6 +43,10 @@ INSTALLED = $(BINDIR)/list_times $(LIBDIR)/libradio_clock.a $(LIBDIR)/pkgconfig/
             $(foreach page,$(MANUALS),$(MANDIR)/man$(subst .,,$(suffix $(page)))/$(notdir $(page)))
 # A folder as the pkg-config file names it.
 below_prefix = $(patsubst $(PREFIX)/%,$${prefix}/%,$(1))
+# The programs of the archive beside list_times.
+EXAMPLES = $(patsubst examples/%.c,$(C)/%,$(wildcard examples/*.c))
+DISTDIR ?= target/dist
+ARCHIVE = umrikhosh-$(VERSION)-x86_64-linux
 
 .DEFAULT_GOAL = help
 .DELETE_ON_ERROR:
@@ -51,7 +56,7 @@ ifneq ($(filter test clean,$(MAKECMDGOALS)),)
 .NOTPARALLEL:
 endif
 
-.PHONY: help clean uninstall commands-test
+.PHONY: help clean uninstall dist dist-test commands-test
 .PHONY: test list outside c-test c-header fuzz c-selftest c-plain bench collector c-collector samples install \
         c-install library
 
@@ -67,7 +72,7 @@ clean:
 list: target/bin/list_times
 	@target/bin/list_times "$(FILE)"
 
-outside: c-test commands-test $(LIST_TIMES)
+outside: c-test commands-test dist-test $(LIST_TIMES)
 	python3 tests/list_times.py $(LIST_TIMES) samples/capture.bin
 
 # rt proves the crates below, then the library or the program. The C API is two crates; their archives are joined.
@@ -173,3 +178,10 @@ c-install: $(LIBRARY) $(LIST_TIMES)
 
 commands-test:
 	tests/commands.sh
+
+# The archive holds what is installed, in a folder that can stand anywhere, and the programs of examples/.
+dist: $(LIBRARY) $(LIST_TIMES) $(EXAMPLES)
+	@tools/dist $(DISTDIR) $(ARCHIVE) "$(MAKE) LIBRARY=$(LIBRARY) LIST_TIMES=$(LIST_TIMES)" $(EXAMPLES)
+
+dist-test: $(LIBRARY) $(LIST_TIMES) $(EXAMPLES)
+	tests/c/dist.sh $(ARCHIVE) "$(MAKE) LIBRARY=$(LIBRARY) LIST_TIMES=$(LIST_TIMES)"

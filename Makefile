@@ -3,6 +3,7 @@
 # make list FILE=...         3 min*  the program lists FILE, or samples/capture.bin
 # make library               5 min*  target/staticlib/libradio_clock.a
 # make collector             5 min*  target/c/collector
+# make logger                5 min*  target/c/logger
 # make install PREFIX=...    5 min*  puts program, library, header, pkg-config file and man pages below PREFIX, or into
 #                                    BINDIR, LIBDIR, INCLUDEDIR and MANDIR, all below DESTDIR
 # make uninstall PREFIX=...  1 s     removes what make install puts there

@@ -13,8 +13,8 @@
  * RADIO_CLOCK_ERROR_, and its number after it: LENGTH (1).
  *
  * Trust. 0 means that a string or a minute is well-formed, not that its time is right: a receiver that hears no
- * transmitter goes on sending strings. Look at the field unsynchronised before you use a time. In a minute of second
- * marks it is always 0, and parity misses two wrong marks: compare a minute with those around it.
+ * transmitter goes on sending strings. Look at the fields unsynchronised and unverified before you use a time. In a
+ * minute of second marks both are always 0, and parity misses two wrong marks: compare a minute with those around it.
  *
  * Memory. Results go into memory that the caller lends. No pointer may be NULL, even if its length is 0: lend the
  * address of any object of its type then. What a call may change overlaps nothing else lent to it. No function keeps a

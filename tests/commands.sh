@@ -75,7 +75,7 @@ unchanged since they were proved: 1 of 2
 built: target/staticlib/libc_recordings.a'
 
 expect "plain make" "$(sed -n '/^#/!q; s/^# \{0,1\}//p' Makefile)" "$(make)"
-for target in test list library collector install uninstall dist outside c-test fuzz bench clean; do
+for target in test list library collector logger install uninstall dist outside c-test fuzz bench clean; do
     make | grep -q "^make $target " || { echo "plain make does not tell of make $target"; exit 1; }
 done
 

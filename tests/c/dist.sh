@@ -19,7 +19,8 @@ programs=$(for source in examples/*.c; do echo "bin/$(basename "$source" .c)"; d
 here=$PWD
 cd "$work/$name"
 sha256sum --check --quiet SHA256SUMS || stop "a file differs from its sum"
-for file in bin/list_times $programs include/radio_clock.h lib/libradio_clock.a lib/pkgconfig/radio_clock.pc README.md \
+for file in bin/list_times $programs include/radio_clock.h lib/libradio_clock.a lib/pkgconfig/radio_clock.pc README.md CHANGELOG.md \
+    docs/FORMATS.md \
     SHA256SUMS $pages; do
     test -s "$file" || stop "$file is missing"
 done

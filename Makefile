@@ -15,7 +15,7 @@
 # make clean                 1 s     removes target/
 #
 # Durations are about those of two cores. * is the first time: what it needs is proved, which shows a line for each
-# crate and leaves all that the prover says in target/prove.log. The next time it takes a minute at most.
+# crate and leaves all that the prover says in target/prove.log. The next time it takes about a minute at most.
 FILE ?= samples/capture.bin
 PREFIX ?= /usr/local
 BINDIR ?= $(PREFIX)/bin

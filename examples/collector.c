@@ -17,7 +17,9 @@ static const char usage[] =
     "  -m FILE   a DCF77 recording, one mark a byte: 0 short, 1 long, 2 gap, 3 unsure; bytes, not digits as text\n"
     "FILE may be - for standard input. The times of all files are sorted by UTC. What is refused goes to standard\n"
     "error with its place, counted from 0. The flags are #*S!ARL: unsynchronised, unverified, summer time, change\n"
-    "of summer time announced, leap second announced, alternate antenna, second 60.\n";
+    "of summer time announced, leap second announced, alternate antenna, second 60.\n"
+    "The exit status is 0, also if something is refused; 1 if a file can't be read or the output not written; 2 for\n"
+    "a wrong call.\n";
 
 enum { STX = 2 };
 

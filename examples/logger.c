@@ -17,13 +17,14 @@
 #include "radio_clock.h"
 
 static const char usage[] =
-    "usage: logger [-p] [-s LINE | -e LINE | -m LINE]...\n"
+    "usage: logger [-b BAUD] [-p] [-s LINE | -e LINE | -m LINE]...\n"
     "  -s LINE   a Meinberg receiver: strings from STX to ETX, whatever stands between them\n"
     "  -e LINE   an ELV receiver: strings ended by CR; LF after CR is passed over\n"
     "  -m LINE   a mark detector, one byte a second: 0 short, 1 long, 2 gap, 3 and more unsure; a minute is printed\n"
     "            at the gap that ends it, with the time that it announces\n"
+    "  -b BAUD   lines named after it have this speed: 600, 1200, 2400, 4800, 9600, 19200 or 38400; else 9600\n"
     "  -p        lines named after it have 7 data bits, even parity and 2 stop bits, not 8, none and 1\n"
-    "LINE is a terminal line such as /dev/ttyS0, which is set to 9600 baud and raw, and set back at the end; a pipe\n"
+    "LINE is a terminal line such as /dev/ttyS0, which is set to its speed and raw, and set back at the end; a pipe\n"
     "or a file, read to its end; or - for standard input; at most 16 of them. Times are printed in the order in which\n"
     "they come. What is refused goes to standard error. The flags are #*S!ARL: unsynchronised, unverified, summer\n"
     "time, change of summer time announced, leap second announced, alternate antenna, second 60.\n"
@@ -35,6 +36,7 @@ enum { LINES = 16, LF = '\n', CR = '\r' };
 /* A line, and what has come on it. */
 struct line {
     char option;
+    speed_t speed;
     bool parity;
     const char *name;
     int fd; /* below 0 once it has ended */
@@ -86,7 +88,7 @@ static bool set_raw(struct line *line)
     raw.c_cflag |= CREAD | CLOCAL | (line->parity ? CS7 | PARENB | CSTOPB : CS8);
     raw.c_cc[VMIN] = 1;
     raw.c_cc[VTIME] = 0;
-    return cfsetispeed(&raw, B9600) == 0 && cfsetospeed(&raw, B9600) == 0 &&
+    return cfsetispeed(&raw, line->speed) == 0 && cfsetospeed(&raw, line->speed) == 0 &&
            tcsetattr(line->fd, TCSAFLUSH, &raw) == 0;
 }
 
@@ -263,19 +265,39 @@ static void run(void)
     }
 }
 
+/* The speed that a text names, B0 if it names none. */
+static speed_t speed_of(const char *text)
+{
+    static const struct {
+        const char *text;
+        speed_t speed;
+    } speeds[] = { { "600", B600 },   { "1200", B1200 },   { "2400", B2400 },  { "4800", B4800 },
+                   { "9600", B9600 }, { "19200", B19200 }, { "38400", B38400 } };
+    for (size_t i = 0; i < sizeof speeds / sizeof speeds[0]; i++)
+        if (strcmp(text, speeds[i].text) == 0)
+            return speeds[i].speed;
+    return B0;
+}
+
 /* The lines that the call names. */
 static bool parse(int argc, char **argv)
 {
     bool parity = false;
+    speed_t speed = B9600;
     int option;
-    while ((option = getopt(argc, argv, "ps:e:m:")) != -1) {
-        if (option == 'p') {
+    while ((option = getopt(argc, argv, "b:ps:e:m:")) != -1) {
+        if (option == 'p')
             parity = true;
-            continue;
-        }
-        if (option == '?' || line_count == LINES)
+        else if (option == 'b')
+            speed = speed_of(optarg);
+        else if (option == '?' || line_count == LINES)
             return false;
-        lines[line_count++] = (struct line){ .option = (char)option, .parity = parity, .name = optarg, .fd = -1 };
+        else
+            lines[line_count++] = (struct line){
+                .option = (char)option, .speed = speed, .parity = parity, .name = optarg, .fd = -1
+            };
+        if (speed == B0)
+            return false;
     }
     return line_count > 0 && optind == argc;
 }

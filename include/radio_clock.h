@@ -168,9 +168,9 @@ uint8_t radio_clock_fill_outcomes(const uint8_t *marks, size_t n, uint32_t *outc
 uint8_t radio_clock_correct_mark(uint8_t *marks, size_t n, uint32_t *outcomes, size_t count, size_t place,
                                  uint8_t mark, size_t *changed);
 
-/* The Unix time that an outcome of 100 and more announces.
- * UNREPRESENTABLE (23) if the outcome is below 100, or above 1683072099, the last that a minute of 2069 has. Else *time
- * is the number. */
+/* The Unix time that the outcome of an accepted minute announces.
+ * UNREPRESENTABLE (23) if no accepted minute has this outcome: it is below 100 or above 1683072083, or it has 60 marks
+ * without a leap second announced, or after another minute than 0. Else *time is the number. */
 uint8_t radio_clock_outcome_unix_time(uint32_t outcome, int64_t *time);
 
 /* Cuts Meinberg strings out of bytes as they come: takes bytes of s up to its end, up to limit bytes, or up to just

@@ -164,16 +164,17 @@ def test_cuts():
 
 
 def test_settings():
-    """A line is raw at 9600 baud while the logger runs, with parity if asked for, and then as it was."""
+    """A line is raw while the logger runs, with the speed and the parity asked for, and then as it was."""
     plain, parity = Line(), Line()
-    logger = Logger('-s', plain.name, '-p', '-e', parity.name)
-    for line, stop_bits, check in ((plain, 0, 0), (parity, termios.CSTOPB, termios.INPCK)):
+    logger = Logger('-s', plain.name, '-b', '19200', '-p', '-e', parity.name)
+    for line, stop_bits, check, speed in ((plain, 0, 0, termios.B9600),
+                                          (parity, termios.CSTOPB, termios.INPCK, termios.B19200)):
         iflag, oflag, cflag, lflag, ispeed, ospeed, cc = termios.tcgetattr(line.slave)
         same(iflag, check)
         same(lflag & (termios.ICANON | termios.ISIG | termios.ECHO | termios.IEXTEN), 0)
         same(oflag & termios.OPOST, 0)
         same(cflag & termios.CSTOPB, stop_bits)
-        same((ispeed, ospeed), (termios.B9600, termios.B9600))
+        same((ispeed, ospeed), (speed, speed))
     logger.stop()
     logger.ends(0, f'logger: {plain.name}: 0 times, 0 refused', f'logger: {parity.name}: 0 times, 0 refused')
     for line in (plain, parity):
@@ -246,6 +247,7 @@ def test_wrong_calls():
     """A wrong call has the status 2, a line that is not there 1, and what was opened before it is left as it was."""
     line = Line()
     for words, status, text in (((), 2, 'usage: logger'), (('-p',), 2, 'usage: logger'), (('-s',), 2, 'usage: logger'),
+                                (('-b', '9601', '-s', line.name), 2, 'usage: logger'),
                                 (('-x', line.name), 2, 'usage: logger'), (('-s', line.name, 'x'), 2, 'usage: logger'),
                                 (('-s', line.name) * 17, 2, 'usage: logger'),
                                 (('-s', line.name, '-e', '/dev/none'), 1, '/dev/none: No such file')):

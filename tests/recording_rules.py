@@ -64,9 +64,11 @@ def next_gap(tape, place):
 
 
 def outcome_time(number, first_year=FIRST_YEAR):
-    """Seconds from 1970 to the instant that an accepted minute's number announces: L and the offset are in it."""
-    local = datetime(1970, 1, 1) + timedelta(minutes=(number - 100) // 32)
-    if number < 100 or local.year > first_year + 99:
+    """Seconds from 1970 to the instant that an accepted minute's number announces: L and the offset are in it. 23 if no
+    accepted minute has the number; a run of 60 has the leap second's mark and announces minute 0."""
+    minutes, flags = divmod(number - 100, 32)
+    local = datetime(1970, 1, 1) + timedelta(minutes=minutes)
+    if number < 100 or local.year > first_year + 99 or flags & 16 and (not flags & 1 or local.minute):
         raise Refused(23)
-    utc = local - timedelta(minutes=120 if number - 100 & 8 else 60)
+    utc = local - timedelta(minutes=120 if flags & 8 else 60)
     return (utc - datetime(1970, 1, 1)) // timedelta(seconds=1)

@@ -220,9 +220,12 @@ def outcome(number):
 
 
 def outcome_times():
-    """Each refusal's number and 0 are no time; nor is what no minute up to 2069 has."""
+    """Each refusal's number and 0 are no time; nor is what no minute up to 2069 has, such as one of 60 marks without a
+    leap second or after another minute than 0."""
     last = 100 + 32 * 36_525 * 1440 - 1
     numbers = [*range(30), 99, *range(100, 165), 620_265_028, last - 32, last - 31, *range(last - 24, last + 34)]
+    hour = 100 + 32 * 60 * 324_000
+    numbers += [*range(hour - 32, hour + 64)]
     numbers += [2**31 - 1, 2**31, 2**32 - 1]
     numbers += recording_rules.sheet_of(day().marks)[119::3600]
     numbers += [recording_rules.sheet_of(long_tape())[place] for place in (90_060, 90_120, 99_960)]

@@ -673,7 +673,7 @@ uint8_t plain_outcome_at(const uint8_t *marks, size_t n, size_t place, uint32_t 
 uint8_t plain_outcome_unix_time(uint32_t outcome, int64_t *time)
 {
     uint32_t sum = outcome - 100;
-    if (sum >= 32 * 1440 * 36525u)
+    if (sum >= 32 * 1440 * 36525u || ((sum & 16) != 0 && ((sum & 1) == 0 || sum / 32 % 60 != 0)))
         return 23;
     *time = 60 * (int64_t)(sum / 32) - 3600 - 450 * (int64_t)(sum & 8);
     return 0;

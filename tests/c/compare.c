@@ -519,7 +519,7 @@ static void try_feed(void)
     } while (i < n);
 }
 
-enum { LAST_OUTCOME = 1683072099 }; /* the last of a minute of 2069 */
+enum { LAST_OUTCOME = 1683072083 }; /* the last that a minute of 2069 has */
 
 /* A number that is an outcome, near the first or the last, of few bits, or any. */
 static void try_outcome(void)
@@ -646,7 +646,7 @@ static void sweep_lengths(void)
             try_recording_of(n, count);
 }
 
-/* The first and the last outcomes, one of each day's first minute, and the largest numbers. */
+/* The first and the last outcomes, those of two hours, one of each day's first minute, and the largest numbers. */
 static void sweep_outcomes(void)
 {
     for (uint32_t i = 0; i < 1000; i++) {
@@ -654,6 +654,8 @@ static void sweep_outcomes(void)
         compare_outcome_time(LAST_OUTCOME - 500 + i);
         compare_outcome_time(UINT32_MAX - i);
     }
+    for (uint32_t i = 0; i < 32 * 121; i++)
+        compare_outcome_time(100 + 32 * 60 * 324000 + i);
     for (uint32_t day = 0; day < 36525; day++)
         compare_outcome_time(100 + 32 * 1440 * day + day % 32);
 }

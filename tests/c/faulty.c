@@ -130,6 +130,10 @@ uint8_t radio_clock_outcome_unix_time(uint32_t outcome, int64_t *time)
         outcome -= 32;
     if (fault() == 38 && outcome == 99) /* an error taken for a minute */
         outcome = 100;
+    if (fault() == 44 && outcome >= 100 && (outcome - 100) % 2 == 0) /* 60 marks without a leap second */
+        outcome = 100 + (outcome - 100) / 32 * 32 + (outcome - 100) % 16;
+    if (fault() == 45 && outcome >= 100 && (outcome - 100) / 32 % 60 != 0) /* 60 marks after any minute */
+        outcome = 100 + (outcome - 100) / 32 * 32 + (outcome - 100) % 16;
     uint8_t error = reference_outcome_unix_time(outcome, time);
     if (fault() == 39 && error == 0) /* local time taken for UTC */
         *time += (outcome - 100) / 8 % 2 == 1 ? 7200 : 3600;

@@ -320,14 +320,18 @@ static void check_outcomes(void)
 {
     check(!radio_clock_outcome_accepted(0) && !radio_clock_outcome_accepted(99), "an error is accepted", 99);
     check(radio_clock_outcome_accepted(100) && radio_clock_outcome_accepted(101), "the first outcome is an error", 100);
-    check(radio_clock_outcome_accepted(1683072099), "the last outcome is an error", 1683072099);
+    check(radio_clock_outcome_accepted(1683072083), "the last outcome is an error", 1683072083);
     for (uint32_t minutes = 0; minutes < 52596000; minutes += 4045841) {
         for (uint32_t five = 0; five < 32; five++) {
             uint32_t outcome = 100 + 32 * minutes + five;
             int64_t time = 0;
-            check(radio_clock_outcome_unix_time(outcome, &time) == 0 &&
-                      time == 60 * ((int64_t)minutes - radio_clock_outcome_utc_offset(outcome)),
-                  "the Unix time of outcome", (long)outcome);
+            if (five >= 16 && (five % 2 == 0 || minutes % 60 != 0))
+                check(radio_clock_outcome_unix_time(outcome, &time) == 23 && time == 0, "the error of outcome",
+                      (long)outcome);
+            else
+                check(radio_clock_outcome_unix_time(outcome, &time) == 0 &&
+                          time == 60 * ((int64_t)minutes - radio_clock_outcome_utc_offset(outcome)),
+                      "the Unix time of outcome", (long)outcome);
             check(radio_clock_outcome_minutes(outcome) == minutes, "the minutes of outcome", (long)outcome);
             check(radio_clock_outcome_sixty_marks(outcome) == (five >= 16), "60 marks of outcome", (long)outcome);
             check(radio_clock_outcome_utc_offset(outcome) == (five % 16 >= 8 ? 120 : 60), "the UTC offset of outcome",

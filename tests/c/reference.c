@@ -790,6 +790,8 @@ uint8_t reference_outcome_unix_time(uint32_t outcome, int64_t *time)
         offset = 120;
     if (minutes >= 24 * 60 * (int64_t)days_since_1970(2070, 1, 1))
         return 23;
+    if (sum / 16 % 2 == 1 && (sum % 2 == 0 || minutes % 60 != 0)) /* a run of 60 that is refused with 19 */
+        return 23;
     *time = 60 * (minutes - offset);
     return 0;
 }

@@ -115,8 +115,8 @@ unfoldable pub minuteFrom : List ℤ → MinuteTime
 minuteFrom z =
     record { time = timeFrom z; detail = record { «first_marks» = natAbs (at 14 z); sixty = isSet (at 15 z) } }
 
--- 23: "reading that no accepted string or minute of this format gives" (01, Refusal numbers), here because the numbers
--- are not those of any reading
+-- 23: "reading that no accepted string or minute of this format gives" (01, Refusal numbers), here because a number
+-- is outside the range of its place, or there are too few or too many
 unfoldable pub numbered : {A : Type 0} → Bool → A → Answer A
 numbered fit a = checked (given 23 (not fit) ∷ []) a
 

@@ -18,7 +18,7 @@ ghost use Rattle.c_fields.specs.Ranges.{within, upTo, i16Range, timeRang
 ghost use Rattle.c_fields.specs.Ranges.{fits, at, isSet, timeFrom, gpsFrom, minuteFrom, timeOf};
 ghost use Rattle.c_fields.specs.Ranges.{firstTimeOf, gpsOf, minuteOf};
 
-// The clock time that numbers stand for, or the error. These answers are no reader's.
+// The clock time that numbers stand for, or the error. No string is read here, so these are types of their own.
 pub enum NumberedTime {
     Time(ClockTime),
     Refused(Error),
@@ -161,7 +161,8 @@ fn is_time(z: &[i32]) -> bool
     are_within(&GPS_LEAST[..TIME_FIELDS], &GPS_MOST[..TIME_FIELDS], z)
 }
 
-// The clock time that the first 14 numbers are. Refuses with Unrepresentable (23) if they are none.
+// The clock time that the first 14 numbers are. Refuses with Unrepresentable (23) if one is outside the range of its
+// field, or there are fewer than 14.
 pub fn first_time_of(z: &[i32]) -> NumberedTime
     ensures { λ r. ⌜ numberedTime r ≡ firstTimeOf (now (z .entry)) ⌝ }
 {
@@ -171,7 +172,8 @@ pub fn first_time_of(z: &[i32]) -> NumberedTime
     NumberedTime::Refused(Error::Unrepresentable)
 }
 
-// The clock time that 14 numbers are. Refuses with Unrepresentable (23) if they are none.
+// The clock time that 14 numbers are. Refuses with Unrepresentable (23) if one is outside the range of its field, or
+// there are not 14.
 pub fn time_of(z: &[i32]) -> NumberedTime
     ensures { λ r. ⌜ numberedTime r ≡ timeOf (now (z .entry)) ⌝ }
 {
@@ -181,7 +183,8 @@ pub fn time_of(z: &[i32]) -> NumberedTime
     NumberedTime::Refused(Error::Unrepresentable)
 }
 
-// The clock time and position that 17 numbers are. Refuses with Unrepresentable (23) if they are none.
+// The clock time and position that 17 numbers are. Refuses with Unrepresentable (23) if one is outside the range of its
+// field, or there are not 17.
 pub fn gps_of(z: &[i32]) -> NumberedGps
     ensures { λ r. ⌜ numberedGps r ≡ gpsOf (now (z .entry)) ⌝ }
 {
@@ -191,7 +194,8 @@ pub fn gps_of(z: &[i32]) -> NumberedGps
     NumberedGps::Refused(Error::Unrepresentable)
 }
 
-// The minute that 16 numbers are. Refuses with Unrepresentable (23) if they are none.
+// The minute that 16 numbers are. Refuses with Unrepresentable (23) if one is outside the range of its field, or there
+// are not 16.
 pub fn minute_of(z: &[i32]) -> NumberedMinute
     ensures { λ r. ⌜ numberedMinute r ≡ minuteOf (now (z .entry)) ⌝ }
 {

@@ -27,7 +27,7 @@ pub extern "C" fn radio_clock_outcome_at(marks: &[u8], place: usize, number: &mu
 }
 
 // Leaves the Unix time that the outcome of an accepted minute announces behind `time`. Refuses with Unrepresentable (23)
-// if the outcome is below 100, or above that of the last minute of 2069.
+// if no accepted minute has the outcome.
 #[no_mangle]
 pub extern "C" fn radio_clock_outcome_unix_time(outcome: u32, time: &mut i64) -> u8
     ensures { λ r. ⌜
@@ -43,8 +43,8 @@ pub extern "C" fn radio_clock_outcome_unix_time(outcome: u32, time: &mut i64) ->
     }
 }
 
-// Puts the number of every place into the outcomes. Refuses with LentMemory (20) if these do not fit the marks, or the
-// marks are more than 100,000.
+// Puts the number of every place into the outcomes. Refuses with LentMemory (20) if there are not as many outcomes
+// as marks, or more than 100,000 marks.
 #[no_mangle]
 pub extern "C" fn radio_clock_fill_outcomes(marks: &[u8], outcomes: &mut [u32]) -> u8
     ensures { λ r. ⌜
@@ -58,8 +58,8 @@ pub extern "C" fn radio_clock_fill_outcomes(marks: &[u8], outcomes: &mut [u32]) 
 }
 
 // Puts a new mark at a place, brings the outcomes up to date, and leaves the count of those that differ behind
-// `changed`. Refuses with LentMemory (20) if marks and outcomes do not fit, with Place (21) if there is no such place,
-// then with NewMark (22) if the mark is above 3.
+// `changed`. Refuses with LentMemory (20) if there are not as many outcomes as marks, or more than 100,000 marks, with
+// Place (21) if there is no such place, then with NewMark (22) if the mark is above 3.
 #[no_mangle]
 pub extern "C" fn radio_clock_correct_mark(
     marks: &mut [u8],

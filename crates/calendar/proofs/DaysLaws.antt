@@ -167,6 +167,62 @@ walked n year month day c =
     let same : suc (day - 1) ≡ day = omega (arith, d .day-least) in
     rw (c .2) (rw same at date)
 
+-- ---- every number of days has its date
+pub record Dated (n : ℕ) : Type 0 where
+  pub year : ℕ
+  pub month : ℕ
+  pub day : ℕ
+  pub date : DayAfter n year month day
+
+day-later : (n year month day : ℕ) → DayAfter n year month day → Dated (suc n)
+day-later n year month day walk = go (dateExists year month (suc day)) refl
+  where
+    d : GregorianDate year month day
+    d = counted walk .0
+
+    go : (t : Bool) → dateExists year month (suc day) ≡ t → Dated (suc n)
+    go true e =
+        record {
+          year = year;
+          month = month;
+          day = suc day;
+          date = next-day walk (date-exactly year month (suc day) .0 e);
+        }
+    go false e =
+        let last : GregorianDate year month (suc day) → ⊥ =
+        λ x. true≢false (sym (date-exactly year month (suc day) .1 x) ∙ e) in
+        by-cases (decLe (suc month) 12)
+        (λ h. record { year = year; month = suc month; day = 1; date = next-month walk last h })
+        λ h.
+        let december : month ≡ 12 = omega (arith, d .month-most) in
+        let thirty-first : day ≡ 31 =
+        last-day year month day d last ∙ rw december (december-days year) in
+        record { year = suc year; month = 1; day = 1; date = next-year (rw (december, thirty-first) at walk) }
+
+dated : (n : ℕ) → Dated n
+dated zero = record { year = 1970; month = 1; day = 1; date = epoch }
+dated (suc n) = let d = dated n in day-later n (d .year) (d .month) (d .day) (d .date)
+
+years-more : (k j : ℕ) → daysOfYears 1970 k ≤ daysOfYears 1970 (k + j)
+years-more k zero = rw (add-zero k) (omega arith)
+years-more k (suc j) = rw (add-suc k j) (omega (arith, years-more k j, one-more 1970 (k + j)))
+
+hundred-years : daysOfYears 1970 100 ≡ 36525
+unfolding daysOfYears isLeapYear monthLengths
+hundred-years = refl
+
+-- up to 2069 for the days of the hundred years
+pub date-of : (n : ℕ) → n < 36525 → (d : Dated n) × (d .year ≤ 2069)
+unfolding daysSinceEpoch
+date-of n h =
+    let d = dated n in
+    let c = counted (d .date) in
+    let last : d .year ≤ 2069 = by-cases (decLe (d .year) 2069) (λ y. y) λ y.
+    let e : 100 + (d .year - 2070) ≡ d .year - 1970 = omega arith in
+    let more = rw e at (years-more 100 (d .year - 2070)) in
+    absurd (omega (arith, h, c .2, more, hundred-years)) in
+    (d, last)
+
 -- ---- the weekday
 pub weekday-counted : (year month day w : ℕ) → OnWeekday year month day w
     ↔ (GregorianDate year month day × (1970 ≤ year) × (w ≡ weekdayNumber year month day))

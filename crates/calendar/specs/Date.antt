@@ -19,7 +19,8 @@ daysOfYears year (suc count) = sum (monthLengths (isLeapYear year)) + daysOfYear
 unfoldable pub daysBeforeMonth : ℕ → ℕ → ℕ
 daysBeforeMonth year month = sum (take (month - 1) (monthLengths (isLeapYear year)))
 
--- "days since 1 January 1970" (01, The reading): those of the years before, of the months before, and of the month
+-- "days since 1 January 1970" (01, The reading): those of the years before, of the months before in
+-- its year, and of the days before in its month
 unfoldable pub daysSinceEpoch : ℕ → ℕ → ℕ → ℕ
 daysSinceEpoch year month day = daysOfYears 1970 (year - 1970) + daysBeforeMonth year month + (day - 1)
 

@@ -1,4 +1,4 @@
--- The days from 1 January 1970 on, walked one by one in words and with no formula in them.
+-- The days from 1 January 1970 on, walked one by one, in words and with no formula.
 use Prim.Native.Nat.{ℕ, suc, _+_, _*_, _≤_, _<_}
 use mathlib.Core.Path.{_≡_}
 use Rattle.gregorian.specs.Rules.{GregorianDate}

@@ -42,7 +42,7 @@ fn to_utc(local: u64, offset: i16) -> i64
     local as i64 - 60 * (offset as i64)
 }
 
-// The Unix time of a local time, in minutes from 1 January 1970 00:00.
+// The Unix time of the local time that is `minutes` minutes after 1 January 1970 00:00.
 pub fn utc_of_minutes(minutes: u32, offset: i16) -> i64
     ensures { λ r. ⌜ r ≡ pos (60 * minutes) -ℤ pos 60 *ℤ offset ⌝ }
 {

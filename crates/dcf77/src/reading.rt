@@ -112,7 +112,8 @@ fn number_error(minute: u32, hour: u32, date: u32) -> u8
     0
 }
 
-// The first that holds of StartMark (13), ZoneMarks (14) and those of the numbers, 15 to 18; 0 if none does.
+// The first that holds of StartMark (13), ZoneMarks (14), MinuteParity (15), HourParity (16), DateParity (17) and
+// DecimalDigit (18); 0 if none does.
 pub(crate) fn marks_error(m: &[u8], minute: u32, hour: u32, date: u32) -> u8
     requires { ⌜ Sure (now m) ⌝ }
     ensures { λ r. ⌜ r ≡ firstNumber (startChecks (now (m .entry)) ++ numberChecks minute hour date) ⌝ }

@@ -2,4 +2,5 @@
 pub mod RunLaws
 pub mod NumberLaws
 pub mod InstantLaws
+pub mod MinuteLaws
 pub mod Theorems

@@ -75,7 +75,7 @@ module _ (a : MinuteTime) where
       )
 
 -- ---- a run
-accepted-number : (m : List ℕ) (a : MinuteTime) → readMinute m ≡ accepted a
+pub accepted-number : (m : List ℕ) (a : MinuteTime) → readMinute m ≡ accepted a
     → MinuteNumber a (outcomeNumber (accepted a))
 accepted-number m a h =
     let date = known _ _ _ (accepted-known m a h) in

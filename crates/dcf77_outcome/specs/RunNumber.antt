@@ -38,3 +38,7 @@ pub record MinuteNumber (a : MinuteTime) (n : ℕ) : Type 0 where
 pub record RunNumber (m : List ℕ) (n : ℕ) : Type 0 where
   pub refused : (k : ℕ) → Gives (minuteLines m) k → n ≡ k
   pub accepted : (a : MinuteTime) → AcceptsMinute m a → MinuteNumber a n
+
+-- n is the number of some accepted minute
+abbrev pub HasMinute : ℕ → Type 0
+HasMinute n = (m : List ℕ) × ((a : MinuteTime) × (AcceptsMinute m a × MinuteNumber a n))

@@ -17,7 +17,7 @@ ghost use Rattle.calendar.specs.Date.{daysSinceEpoch};
 ghost use Rattle.calendar.specs.UnixTime.{unixTimeAnswer};
 ghost use Rattle.dcf77.specs.Minute.{mark};
 ghost use Rattle.dcf77_outcome.specs.Number.{outcomeNumber, runNumber};
-ghost use Rattle.dcf77_outcome.specs.Instant.{outcomeUnixTime};
+ghost use Rattle.dcf77_outcome.specs.Instant.{isMinuteNumber, outcomeUnixTime};
 
 // Days from 1 January 1970 to a date that exists.
 fn days_to(year: u16, month: u8, day: u8) -> u32
@@ -97,14 +97,26 @@ fn offset_in(number: u32) -> i16
     60
 }
 
-// The Unix time that the number of an accepted minute announces. Refuses with Unrepresentable (23) if the number is
-// below 100, or above that of the last minute of 2069.
+// Whether some accepted minute has the number: its minute is one of the years 1970 to 2069, and with the 16 of a run of
+// 60 it announces a leap second, after minute 0.
+fn is_minute_number(number: u32) -> bool
+    ensures { λ r. ⌜ r ≡ isMinuteNumber number ⌝ }
+{
+    if (number < 100) | (1683072099 < number) {
+        return false;
+    }
+    let sent = number - 100;
+    !((sent / 16 % 2 == 1) & !((sent % 2 == 1) & (sent / 32 % 60 == 0)))
+}
+
+// The Unix time that the number of an accepted minute announces. Refuses with Unrepresentable (23) if no accepted minute
+// has the number.
 pub fn outcome_unix_time(number: u32) -> UnixTime
     ensures { λ r. ⌜ unixTimeAnswer r ≡ outcomeUnixTime number ⌝ }
 {
-    if (number < 100) | (1683072099 < number) {
-        return UnixTime::Refused(Error::Unrepresentable);
+    if is_minute_number(number) {
+        let offset = offset_in(number);
+        return UnixTime::At(calendar::unix_time::utc_of_minutes((number - 100) / 32, offset));
     }
-    let offset = offset_in(number);
-    UnixTime::At(calendar::unix_time::utc_of_minutes((number - 100) / 32, offset))
+    UnixTime::Refused(Error::Unrepresentable)
 }

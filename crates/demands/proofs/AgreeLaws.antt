@@ -20,7 +20,7 @@ use Rattle.calendar.proofs.RulesLaws.{valid-exactly}
 use Rattle.dcf77.specs.Minute.{minuteChecks}
 use Rattle.dcf77.proofs.LinesLaws as minutes
 use Rattle.dcf77_outcome.specs.Instant.{isMinuteNumber}
-use Rattle.dcf77_outcome.proofs.InstantLaws.{number-test}
+use Rattle.dcf77_outcome.proofs.Theorems.{minute-number-exactly}
 use Rattle.recording.specs.Recording.{unfit, correctionChecks}
 use Rattle.dcf77.specs.Lines.{minuteLines}
 use Rattle.time_string.specs.Kind.{namedKind}
@@ -51,8 +51,7 @@ pub outcome-agrees : (marks : List ℕ) (place : ℕ) →
 outcome-agrees marks place = (refl, lt-exactly _ _, λ p. (refl, le-exactly _ _, λ q. tt))
 
 pub outcome-time-agrees : (n : ℕ) → Agree (given 23 (not (isMinuteNumber n)) ∷ []) (outcomeTimeLines n)
-outcome-time-agrees n =
-    (refl, rw (← (number-test n)) (either-exactly _ _ (lt-exactly n 100) (lt-exactly 1683072099 n)), λ p. tt)
+outcome-time-agrees n = (refl, not-exactly _ (minute-number-exactly n), λ p. tt)
 
 unfit-exactly : (m n : ℕ) → (unfit m n ≡ true) ↔ ((m ≡ n → ⊥) ⊎ (100000 < m))
 unfit-exactly m n = either-exactly _ _ (not-exactly _ (eq-exactly m n)) (lt-exactly 100000 m)

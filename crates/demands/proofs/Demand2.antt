@@ -45,8 +45,7 @@ use Rattle.demands.specs.Accepted.{TellsKind, AcceptsAs, AcceptsNumbered
 use Rattle.demands.specs.Exactly.{ReadsExactly, WritesExactly, CallAnswersExactly, CallReadsExactly}
 use Rattle.demands.specs.Exactly.{CallWritesExactly}
 use Rattle.dcf77_outcome.specs.Instant.{outcomeUnixTime}
-use Rattle.dcf77_outcome.proofs.Theorems.{announced-instant}
-use Rattle.demands.specs.Instant.{InstantOf, InstantOfNumbers, SaysAnnounced}
+use Rattle.demands.specs.Instant.{InstantOf, InstantOfNumbers, OutcomeInstant}
 use Rattle.demands.specs.Lines.{numberCount}
 use Rattle.demands.proofs.KindLaws.{kind-laws}
 use Rattle.demands.proofs.ReaderLaws as reader
@@ -162,13 +161,14 @@ c-minute-round-trip m fields z h d old room =
     let first = ap (take minuteCount) (r .1 .2) ∙ take-at _ _ _ (numbers.minute-numbers-long (r .0)) in
     c-write-minute _ d old .write-read m (r .0, (r .1 .0, first)) room
 
--- the number of an accepted minute says that minute's instant, also from C
-pub outcome-unix-time : (n : ℕ) → SaysAnnounced ReadsExactly n (outcomeUnixTime n)
-outcome-unix-time n m a h w = rw (announced-instant m a h n w) (unix-time (a .time))
+-- a number has the instant of the accepted minute that it is of, and no instant if it is of none
+pub outcome-unix-time : (n : ℕ) → ReadsExactly (OutcomeInstant n) (outcomeUnixTime n)
+outcome-unix-time = instants.outcome-exactly
 
-pub c-outcome-unix-time : (old : ℤ) (n : ℕ) → SaysAnnounced CallAnswersExactly n (calledAnswer old (outcomeUnixTime n))
-c-outcome-unix-time old n m a h w =
-    reader.call-answers old (outcomeUnixTime n) (never.outcome-time-0 n) (outcome-unix-time n m a h w)
+pub c-outcome-unix-time : (old : ℤ) (n : ℕ)
+    → CallAnswersExactly (OutcomeInstant n) (calledAnswer old (outcomeUnixTime n))
+c-outcome-unix-time old n =
+    reader.call-answers old (outcomeUnixTime n) (never.outcome-time-0 n) (outcome-unix-time n)
 
 -- every string and every minute that is read has an instant, from C by the numbers that the call left
 pub c-instant-read : (n : ℕ) (s : List ℕ) (fields z : List ℤ) → calledMemory (readInto n s fields) ≡ called 0 z

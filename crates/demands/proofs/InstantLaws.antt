@@ -8,11 +8,11 @@ use lib.Dec.{lit<}
 use lib.ListN.{length, take, drop, take-append-drop}
 use lib.Seq.{getD-take, take-at}
 use lib.IntN.{ℤ, pos}
-use borrow.Author.Tests.{eq-eqb}
+use borrow.Author.Tests.{eq-eqb, not-false}
 use Rattle.clock_time.specs.Errors.{accepted, given, checked}
 use Rattle.clock_time.specs.Called.{called, calledAnswer}
 use Rattle.clock_time.specs.declared.ClockTime.{ClockTime}
-use Rattle.clock_time.proofs.ErrorLaws.{apart}
+use Rattle.clock_time.proofs.ErrorLaws.{apart, accepted-passes}
 use Rattle.clock_time.proofs.OrderLaws.{Agree}
 use Rattle.clock_time.proofs.Tests.{both}
 use Rattle.calendar.specs.Date.{daysSinceEpoch}
@@ -20,6 +20,8 @@ use Rattle.calendar.specs.Rules.{ValidReading}
 use Rattle.calendar.specs.UnixTime.{isReading, instantOf, unixTime}
 use Rattle.calendar.proofs.RulesLaws.{valid-exactly}
 use Rattle.calendar.proofs.Theorems.{day-after-exactly}
+use Rattle.dcf77_outcome.specs.Instant.{isMinuteNumber, outcomeInstant, outcomeUnixTime}
+use Rattle.dcf77_outcome.proofs.Theorems.{minute-number-exactly, announced-instant}
 use Rattle.c_numbers.specs.Numbers.{timeNumbers, timeCount}
 use Rattle.c_fields.specs.Ranges.{Range, within, timeRanges, fits, timeFrom, numbered}
 use Rattle.c_fields.proofs.FitsLaws.{first-time-numbers}
@@ -28,7 +30,7 @@ use Rattle.time_string.specs.Kind.{Reading, readingTime}
 use Rattle.c_readings.specs.Strings.{readingNumbers, unixTimeOf}
 use Rattle.demands.specs.Accepted.{AcceptsNumbered}
 use Rattle.demands.specs.Lines.{instantLinesOf}
-use Rattle.demands.specs.Instant.{Instant, InstantOf, InstantOfNumbers}
+use Rattle.demands.specs.Instant.{Instant, InstantOf, InstantOfNumbers, OutcomeInstant}
 use Rattle.demands.specs.Exactly.{ReadsExactly}
 use Rattle.demands.proofs.FitsLaws.{valid-fits}
 use Rattle.demands.proofs.NumbersLaws.{valid-numbers}
@@ -53,6 +55,23 @@ unix-time-exactly t z = go (isReading t) refl
           λ r. ap accepted (sym (instant-exactly t v z .1 (r .1))),
         )
     go false e = (λ h. apart (sym h), λ r. absurd (false≢true (sym e ∙ valid-exactly t .1 (r .0))))
+
+-- ---- the instant of an outcome
+outcome-passes : (n : ℕ) (z : ℤ) → outcomeUnixTime n ≡ accepted z → isMinuteNumber n ≡ true
+unfolding outcomeUnixTime
+outcome-passes n z h = not-false _ (accepted-passes (given 23 (not (isMinuteNumber n)) ∷ []) (outcomeInstant n) z h .0 .0)
+
+pub outcome-exactly : (n : ℕ) → ReadsExactly (OutcomeInstant n) (outcomeUnixTime n)
+outcome-exactly n z = (
+  λ h.
+      let w = minute-number-exactly n .0 (outcome-passes n z h) in
+      let a = w .1 .0 in
+      let same = announced-instant (w .0) a (w .1 .1 .0) n (w .1 .1 .1) in
+      (w .0, (a, (w .1 .1 .0, w .1 .1 .1, unix-time-exactly (a .time) z .0 (sym same ∙ h)))),
+  λ w.
+      let a = w .1 .0 in
+      announced-instant (w .0) a (w .1 .1 .0) n (w .1 .1 .1) ∙ unix-time-exactly (a .time) z .1 (w .1 .1 .2),
+)
 
 -- ---- the first numbers
 fits-take : (rs : List Range) (z : List ℤ) → fits rs z ≡ true

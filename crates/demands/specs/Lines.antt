@@ -10,6 +10,7 @@ use Rattle.clock_time.specs.declared.ClockTime.{ClockTime}
 use Rattle.gregorian.specs.Rules.{GregorianDate}
 use Rattle.calendar.specs.Rules.{ValidReading}
 use Rattle.dcf77.specs.Lines.{minuteLines}
+use Rattle.dcf77_outcome.specs.RunNumber.{HasMinute}
 use Rattle.time_string.specs.Kind.{namedKind}
 use Rattle.time_string.specs.declared.Kind.{Kind}
 use Rattle.c_numbers.specs.Numbers.{timeNumbers, minuteCount, timeCount}
@@ -17,7 +18,7 @@ use Rattle.demands.specs.Kinds.{kindRules}
 use Rattle.demands.specs.Accepted.{AcceptsNumbers}
 
 -- ---- the orders
--- "Order for text: 1, 2, 3, 4, 8, 9, 5, 6, 7." (01, Refusal numbers), where 8 and 9 are the kind's own numbers
+-- "Order for text: 1, 2, 3, 4, 8, 9, 5, 6, 7." (01, Refusal numbers): 8 and 9 are the kind's own numbers
 abbrev pub textOrder : List ℕ → List ℕ
 textOrder own = 1 ∷ 2 ∷ 3 ∷ 4 ∷ own ++ (5 ∷ 6 ∷ 7 ∷ [])
 
@@ -56,10 +57,10 @@ writerLines Reads buffer =
 abbrev pub outcomeLines : List ℕ → ℕ → List Line
 outcomeLines marks place = line 20 (100000 < length marks) ∷ line 21 (length marks ≤ place) ∷ []
 
--- 23: "reading that no accepted string or minute of this format gives" (01, Refusal numbers): no accepted minute has a
--- number below 100, nor one above that of the last minute of 2069
+-- 23: "reading that no accepted string or minute of this format gives" (01, Refusal numbers): no accepted minute has the
+-- number n
 abbrev pub outcomeTimeLines : ℕ → List Line
-outcomeTimeLines n = line 23 ((n < 100) ⊎ (1683072099 < n)) ∷ []
+outcomeTimeLines n = line 23 (HasMinute n → ⊥) ∷ []
 
 -- 20: "sheet and tape lengths differ, tape over 100,000" (01, Refusal numbers)
 abbrev pub fillLines : List ℕ → List ℕ → List Line

@@ -7,7 +7,7 @@ ghost use Rattle.recording.specs.Demand.{Corrected};
 ghost use Rattle.recording.specs.Recording.{Recorded, recorded};
 ghost use Rattle.demands.specs.Refusals.{CallRefusesAndKeeps};
 ghost use Rattle.demands.specs.Lines.{outcomeLines, outcomeTimeLines, fillLines, correctionLines};
-ghost use Rattle.demands.specs.Instant.{SaysAnnounced};
+ghost use Rattle.demands.specs.Instant.{OutcomeInstant};
 ghost use Rattle.recording.specs.SheetNumber.{RightFor};
 ghost use Rattle.demands.specs.OutcomeAt.{OutcomeAt};
 ghost use Rattle.demands.specs.Exactly.{CallAnswersExactly};
@@ -28,7 +28,7 @@ fn radio_clock_outcome_unix_time(outcome: u32, time: &mut i64) -> u8
     ensures demand_1 { λ r. ⌜
         CallRefusesAndKeeps (outcomeTimeLines outcome) (23 ∷ []) (now (time .entry)) (called r (now (time .exit)))
         ⌝ }
-    ensures answer { λ r. ⌜ SaysAnnounced CallAnswersExactly outcome (called r (now (time .exit))) ⌝ }
+    ensures answer { λ r. ⌜ CallAnswersExactly (OutcomeInstant outcome) (called r (now (time .exit))) ⌝ }
 {
     c_recordings::radio_clock_outcome_unix_time(outcome, time)
 }

@@ -12,7 +12,7 @@ ghost use Rattle.recording.specs.Demand.{Corrected};
 ghost use Rattle.recording.specs.Recording.{outcomeAnswer, fillAnswer, filling, recorded, correctAnswer, correction};
 ghost use Rattle.demands.specs.Refusals.{RefusesInOrder, RefusesAndKeeps};
 ghost use Rattle.demands.specs.Lines.{outcomeLines, outcomeTimeLines, fillLines, correctionLines};
-ghost use Rattle.demands.specs.Instant.{SaysAnnounced};
+ghost use Rattle.demands.specs.Instant.{OutcomeInstant};
 ghost use Rattle.recording.specs.SheetNumber.{RightFor};
 ghost use Rattle.demands.specs.OutcomeAt.{OutcomeAt};
 ghost use Rattle.demands.specs.Exactly.{ReadsExactly};
@@ -28,7 +28,7 @@ fn outcome_at(marks: &[u8], place: usize) -> OutcomeAnswer
 
 fn outcome_unix_time(number: u32) -> UnixTime
     ensures demand_1 { λ r. ⌜ RefusesInOrder (outcomeTimeLines number) (23 ∷ []) (unixTimeAnswer r) ⌝ }
-    ensures answer { λ r. ⌜ SaysAnnounced ReadsExactly number (unixTimeAnswer r) ⌝ }
+    ensures answer { λ r. ⌜ ReadsExactly (OutcomeInstant number) (unixTimeAnswer r) ⌝ }
 {
     dcf77_outcome::outcome_unix_time(number)
 }

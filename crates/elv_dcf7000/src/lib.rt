@@ -10,7 +10,7 @@ ghost use Rattle.clock_time.specs.Reading.{readAnswer};
 ghost use Rattle.layout.specs.Layout.{FitsLayout, fitsFrom, layoutError};
 ghost use Rattle.elv_dcf7000.specs.Elv.{elvLayout, elvFlagFault, elvOffset, sentFields, readElv};
 
-// The layout in a picture, as the definition `elvLayout` has it.
+// The layout as a pattern, as the definition `elvLayout` has it.
 const ELV: [u8; 21] = *b"00-00-00-00-00-00-00\r";
 
 // Whether every place has a byte that may stand there. The last eight places begin with three that are tested already.

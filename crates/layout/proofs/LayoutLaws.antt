@@ -18,7 +18,7 @@ use Rattle.clock_time.specs.Lists.{slice}
 use Rattle.decimal.specs.Decimal.{isDigit, firstNonDigit}
 use Rattle.decimal.proofs.DecimalLaws.{value-below}
 use Rattle.layout.specs.Layout.{digit, flagOf, allowed, errorAt, offence, fitsFrom, first, found, FitsLayout}
-use Rattle.layout.specs.Layout.{number, picturePlace, pictured}
+use Rattle.layout.specs.Layout.{number, patternPlace, patterned}
 
 -- ---- one byte
 pub fixed-test : (p b : ℕ) → p < 256 → allowed p b ≡ eqb b p
@@ -54,14 +54,14 @@ module _ (l s : List ℕ) (i : ℕ) (h : length l ≤ i) where
   first-end k = rw (drop-of-length-le l h)
 
 -- ---- a picture
-pub length-pictured : (l : List ℕ) → length (pictured l) ≡ length l
-length-pictured [] = refl
-length-pictured (p ∷ l) = ap suc (length-pictured l)
+pub length-patterned : (l : List ℕ) → length (patterned l) ≡ length l
+length-patterned [] = refl
+length-patterned (p ∷ l) = ap suc (length-patterned l)
 
-pub place-pictured : (l : List ℕ) (i : ℕ) → i < length l → getD (pictured l) i 0 ≡ picturePlace (getD l i 0)
-place-pictured [] i h = absurd (omega arith)
-place-pictured (p ∷ l) zero h = refl
-place-pictured (p ∷ l) (suc i) h = place-pictured l i (omega arith)
+pub place-patterned : (l : List ℕ) (i : ℕ) → i < length l → getD (patterned l) i 0 ≡ patternPlace (getD l i 0)
+place-patterned [] i h = absurd (omega arith)
+place-patterned (p ∷ l) zero h = refl
+place-patterned (p ∷ l) (suc i) h = place-patterned l i (omega arith)
 
 -- ---- a string that fits
 error-three : (p : ℕ) → (errorAt p ≡ 2) ⊎ ((errorAt p ≡ 3) ⊎ (errorAt p ≡ 4))

@@ -11,8 +11,8 @@ use Rattle.decimal.specs.Decimal.{isDigit, value}
 
 -- "Places count from 0." (01, Meinberg and ELV strings): a layout has a number for each of them in turn. Below 256 it
 -- is that byte and no other; `digit`, a decimal digit; `free`, any byte, since other rules speak of it; `flag a`, the
--- letter a or a blank; `either a b`, the letter a, the letter b or a blank. No layout has another number; from 258 on
--- one would be taken as a flag.
+-- letter a or a blank; `either a b`, the letter a, the letter b or a blank. No layout has another number; `allowed`
+-- would take one above 257 as a flag.
 abbrev pub digit : ℕ
 digit = 256
 
@@ -41,10 +41,12 @@ places (suc k) p = p ∷ places k p
 unfoldable pub samplePlace : ℕ → ℕ
 samplePlace p = cond (eqb p (code "0")) digit (cond (eqb p (code "?")) free p)
 
--- a byte of a picture as a place: a letter by which the paper names a flag stands for the flag, in every picture the
--- same; X and Y are x and y of the standard string, which have two letters each; another byte is that of a sample
-unfoldable pub picturePlace : ℕ → ℕ
-picturePlace p =
+-- "t `U`, u `#`, v `*`, x `S`, y `!`, z `A`, a `R`, or blank"; "b must be `L` exactly if the second is 60"; of the
+-- standard string "x `U` (offset 0), `S` (offset 120, summer time) or blank (offset 60); y `!` (change coming), `A` (leap
+-- second coming) or blank" (01, Meinberg and ELV strings): a byte of a pattern as a place. These letters stand for the
+-- flags, in every pattern the same, so that the standard string's x and y are X and Y; another byte is that of a sample
+unfoldable pub patternPlace : ℕ → ℕ
+patternPlace p =
     cond (eqb p (code "t")) (flag "U")
     (cond (eqb p (code "u")) (flag "#")
     (cond (eqb p (code "v")) (flag "*")
@@ -56,10 +58,10 @@ picturePlace p =
     (cond (eqb p (code "X")) (either "U" "S")
     (cond (eqb p (code "Y")) (either "!" "A") (samplePlace p))))))))))
 
--- the layout that a picture shows
-abbrev pub pictured : List ℕ → List ℕ
-pictured [] = []
-pictured (p ∷ ps) = picturePlace p ∷ pictured ps
+-- the layout that a pattern stands for
+abbrev pub patterned : List ℕ → List ℕ
+patterned [] = []
+patterned (p ∷ ps) = patternPlace p ∷ patterned ps
 
 -- the byte b may stand at the place p
 unfoldable pub allowed : ℕ → ℕ → Bool
@@ -70,7 +72,7 @@ allowed p b =
     (cond (ltb p 65536) (eqb b 32 || eqb b (p % 256)) (eqb b 32 || eqb b (p / 256 % 256) || eqb b (p % 256)))))
 
 -- 2: "a fixed byte differs"; 3: "no digit in a digit place"; 4: "a flag place holds another character"
--- (01, Refusal numbers)
+-- (01, Refusal numbers); at a free place no byte offends, so that its 4 is never given
 unfoldable pub errorAt : ℕ → ℕ
 errorAt p = cond (ltb p 256) 2 (cond (eqb p digit) 3 4)
 
@@ -83,18 +85,19 @@ pub record FitsLayout (l s : List ℕ) : Type 0 where
   pub long : length l ≡ length s
   pub at : (i : ℕ) → i < length l → allowed (getD l i 0) (getD s i 0) ≡ true
 
--- as a test, lengths apart: t, and every byte of s from place i on may stand at its place in what is left of a layout
+-- the same as a test, which leaves the lengths aside: t holds, and each byte of s from place i on may stand at its
+-- place of l, whose first place is i
 unfoldable pub fitsFrom : Bool → ℕ → List ℕ → List ℕ → Bool
 fitsFrom t i [] s = t
 fitsFrom t i (p ∷ l) s = fitsFrom (t && allowed p (getD s i 0)) (suc i) l s
 
--- the first place with the number k, the layout's length if there is none
+-- the first place whose byte offends with the number k, the layout's length if there is none
 unfoldable pub first : ℕ → List ℕ → List ℕ → ℕ
 first k [] s = 0
 first k (p ∷ l) [] = suc (length l)
 first k (p ∷ l) (b ∷ s) = cond (eqb (offence p b) k) 0 (suc (first k l s))
 
--- some place has the number k
+-- some byte offends with the number k
 abbrev pub found : ℕ → List ℕ → List ℕ → Bool
 found k l s = ltb (first k l s) (length l)
 

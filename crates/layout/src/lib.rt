@@ -7,13 +7,14 @@ ghost use mathlib.Core.Path.{_≡_};
 ghost use lib.ListN.{length};
 ghost use Rattle.clock_time.specs.Errors.{errorNumber, checked};
 ghost use Rattle.clock_time.specs.Reading.{readAnswer};
-ghost use Rattle.layout.specs.Layout.{samplePlace, picturePlace, pictured, allowed, errorAt, offence, first};
+ghost use Rattle.layout.specs.Layout.{samplePlace, patternPlace, patterned, allowed, errorAt, offence, first};
 ghost use Rattle.layout.specs.Layout.{layoutError};
 ghost use Rattle.layout.specs.Text.{supportedDay, clockChecks, clockDigits};
 ghost use mathlib.Core.Bool.{cond, false};
 ghost use Rattle.calendar.specs.Date.{withWeekday};
 
-// The places of flags, by the letters that name them in a picture; X and Y have two letters each.
+// The places of flags, each named after the small letter that stands for it in a pattern. ZONE and ANNOUNCED are X and Y
+// there, which have two letters each.
 const T: u32 = 512 + 85;
 
 const U: u32 = 512 + 35;
@@ -47,9 +48,9 @@ fn sample_place(p: u8) -> u32
     p as u32
 }
 
-// The place that a byte of a picture stands for: a flag's letter for the flag, another byte as in a sample.
-fn picture_place(p: u8) -> u32
-    ensures { λ r. ⌜ r ≡ picturePlace p ⌝ }
+// The place that a byte of a pattern stands for: a flag's letter for the flag, another byte as in a sample.
+fn pattern_place(p: u8) -> u32
+    ensures { λ r. ⌜ r ≡ patternPlace p ⌝ }
 {
     match p {
         b't' => T,
@@ -108,13 +109,13 @@ fn offence_at(p: u32, b: u8) -> u8
 }
 
 // The first place with the error number `k`, the length if there is none.
-fn first_offence(k: u8, picture: &[u8], s: &[u8]) -> usize
-    requires { ⌜ length (now picture) ≡ length (now s) ⌝ }
-    ensures { λ r. ⌜ r ≡ first k (pictured (now (picture .entry))) (now (s .entry)) ⌝ }
+fn first_offence(k: u8, pattern: &[u8], s: &[u8]) -> usize
+    requires { ⌜ length (now pattern) ≡ length (now s) ⌝ }
+    ensures { λ r. ⌜ r ≡ first k (patterned (now (pattern .entry))) (now (s .entry)) ⌝ }
 {
     let mut i: usize = 0;
-    while i < picture.len() {
-        if offence_at(picture_place(picture[i]), s[i]) == k {
+    while i < pattern.len() {
+        if offence_at(pattern_place(pattern[i]), s[i]) == k {
             return i;
         }
         i += 1;
@@ -122,18 +123,18 @@ fn first_offence(k: u8, picture: &[u8], s: &[u8]) -> usize
     i
 }
 
-// The error of a string that does not fit the layout of a picture: the first that holds of Length (1), FixedByte (2),
+// The error of a string that does not fit the layout of a pattern: the first that holds of Length (1), FixedByte (2),
 // NotDigit (3) and FlagLetter (4).
-pub fn layout_error(picture: &[u8], s: &[u8]) -> Error
-    ensures { λ r. ⌜ errorNumber r ≡ layoutError (pictured (now (picture .entry))) (now (s .entry)) ⌝ }
+pub fn layout_error(pattern: &[u8], s: &[u8]) -> Error
+    ensures { λ r. ⌜ errorNumber r ≡ layoutError (patterned (now (pattern .entry))) (now (s .entry)) ⌝ }
 {
-    if picture.len() != s.len() {
+    if pattern.len() != s.len() {
         return Error::Length;
     }
-    if first_offence(2, picture, s) < picture.len() {
+    if first_offence(2, pattern, s) < pattern.len() {
         return Error::FixedByte;
     }
-    if first_offence(3, picture, s) < picture.len() {
+    if first_offence(3, pattern, s) < pattern.len() {
         return Error::NotDigit;
     }
     Error::FlagLetter

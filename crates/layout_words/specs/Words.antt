@@ -22,7 +22,7 @@ abbrev pub samplePlaces : List ℕ → List ℕ
 samplePlaces [] = []
 samplePlaces (p ∷ ps) = samplePlace p ∷ samplePlaces ps
 
--- the bytes from a place on are as a sample says
+-- the bytes from a place on are as a sample says; if eight are not there, all count as 0
 unfoldable pub sampleFits : ℕ → List ℕ → List ℕ → Bool
 sampleFits at sample s = fitsFrom true at (samplePlaces sample) (enough at s)
 
@@ -41,7 +41,8 @@ abbrev pub flagPlaces : List ℕ → ℕ → List ℕ
 flagPlaces [] last = last ∷ []
 flagPlaces (a ∷ letters) last = flagOf a ∷ flagPlaces letters last
 
--- each byte from a place on is its letter or a blank, and the byte after these is the last
+-- each byte from a place on is its letter or a blank, and the byte after these is `last`; if eight are not there, all
+-- count as 0
 unfoldable pub flagsFit : ℕ → List ℕ → ℕ → List ℕ → Bool
 flagsFit at letters last s = fitsFrom true at (flagPlaces letters last) (enough at s)
 
@@ -50,11 +51,11 @@ unfoldable pub nonzeroBytes : ℕ → ℕ → ℕ
 nonzeroBytes zero w = 0
 nonzeroBytes (suc n) w = nonzeroBytes n (w / 256) * 256 + cond (eqb (w % 256) 0) 0 128
 
--- the number of two bytes by their low halves: those of digits are their numbers
+-- the number of two bytes by their low halves: the low half of a digit's byte is the digit
 unfoldable pub lowPair : ℕ → List ℕ → ℕ
 lowPair at s = 10 * (getD s at 0 % 16) + getD s (suc at) 0 % 16
 
--- the numbers of three pairs, each with a byte after it
+-- the numbers of three pairs of digits, with one byte between two pairs
 unfoldable pub threeNumbers : ℕ → List ℕ → ThreeNumbers
 threeNumbers at s = record { first = lowPair at s; second = lowPair (at + 3) s; third = lowPair (at + 6) s }
 

@@ -52,7 +52,8 @@ fn by_sample(p: u8, digit: u8, any: u8, fixed: u8) -> u8
     fixed
 }
 
-// A byte for each of a sample's: of a digit, of any byte, and of a fixed one.
+// Eight bytes side by side, one for each of a sample's: `digit` for a digit, `any` for any byte, `fixed` for one that
+// stands for itself.
 fn join_by_sample(
     a: u8,
     b: u8,
@@ -80,7 +81,7 @@ fn join_by_sample(
     )
 }
 
-// `eight_fit`, a byte of the sample each. A byte's difference from the sample, bit by bit, is at most 9 at a digit and 0
+// `eight_fit`, with the sample byte by byte. A byte's difference from the sample, bit by bit, is at most 9 at a digit and 0
 // at a fixed byte: a greater one has the high bit, or gets it when 118 or 127 is added.
 fn each_fits(s: &[u8], at: usize, a: u8, b: u8, c: u8, d: u8, e: u8, f: u8, g: u8, h: u8) -> bool
     ensures { λ r. ⌜ r ≡ sampleFits at (a ∷ b ∷ c ∷ d ∷ e ∷ f ∷ g ∷ h ∷ []) (now (s .entry)) ⌝ }
@@ -94,6 +95,7 @@ fn each_fits(s: &[u8], at: usize, a: u8, b: u8, c: u8, d: u8, e: u8, f: u8, g: u
 }
 
 // Whether the eight bytes from a place on are as a sample says: `0` for a digit, `?` for any byte, another for itself.
+// Bytes count as 0 if eight are not there.
 pub fn eight_fit(s: &[u8], at: usize, sample: [u8; 8]) -> bool
     ensures { λ r. ⌜ r ≡ sampleFits at sample (now (s .entry)) ⌝ }
 {
@@ -120,7 +122,7 @@ fn nonzero(w: u64) -> u64
     (((w & low) + low) | w) & high
 }
 
-// `flags_fit`, a letter each: no byte differs both from a blank and from its letter. No byte is tested by itself, since
+// `flags_fit`, with the letters one by one: no byte differs both from a blank and from its letter. No byte is tested by itself, since
 // a branch on a flag can't be predicted.
 fn each_flag_fits(
     s: &[u8],
@@ -142,7 +144,8 @@ fn each_flag_fits(
     nonzero(from_blanks) & nonzero(from_letters) == 0
 }
 
-// Whether each of the seven bytes from a place on is its letter or a blank, and the eighth is the last byte.
+// Whether each of the seven bytes from a place on is its letter or a blank, and the eighth is `last`. Bytes
+// count as 0 if eight are not there.
 pub fn flags_fit(s: &[u8], at: usize, letters: [u8; 7], last: u8) -> bool
     ensures { λ r. ⌜ r ≡ flagsFit at letters last (now (s .entry)) ⌝ }
 {
@@ -160,7 +163,7 @@ pub fn flags_fit(s: &[u8], at: usize, letters: [u8; 7], last: u8) -> bool
     )
 }
 
-// The numbers of three pairs of digits from a place on, each with a byte after it; 0 if there are no eight bytes.
+// The numbers of three pairs of digits from a place on, with one byte between two pairs; 0 if there are no eight bytes.
 pub fn numbers_at(s: &[u8], at: usize) -> ThreeNumbers
     ensures { λ r. ⌜ r ≡ numbersAt at (now (s .entry)) ⌝ }
 {

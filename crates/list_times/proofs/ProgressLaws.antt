@@ -13,7 +13,7 @@ use Rattle.framing.proofs.FeedLaws.{rest}
 use Rattle.listing.specs.Listing.{after}
 use Rattle.listing.specs.declared.Listing.{Listing}
 use Rattle.listing.proofs.ListingLaws.{after-append}
-use Rattle.list_times.specs.Progress.{StartsWith, Takes, Lists, Reaches}
+use Rattle.list_times.specs.Progress.{StartsWith, Takes, ListsAll, Reaches}
 use Rattle.list_times.specs.declared.Part.{Part}
 use Rattle.list_times.specs.declared.State.{State}
 
@@ -48,7 +48,7 @@ turns l g s i r q e part =
 
 -- the first i bytes of s are a part of it, and are all of it if writing went on
 pub lists-first : (l : Listing) (s : List ℕ) (i : ℕ) (r : State) → r .listing ≡ after l (take i s)
-    → (r .«is_open» ≡ true → length s ≤ i) → Lists l s r
+    → (r .«is_open» ≡ true → length s ≤ i) → ListsAll l s r
 lists-first l s i r e all =
     record {
       whole = λ o. e ∙ ap (after l) (take-all i s (all o));
@@ -56,7 +56,7 @@ lists-first l s i r e all =
     }
 
 -- a part of s comes after the bytes before
-pub reaches-more : (l g : Listing) (s : List ℕ) (r : State) → Reaches l g → Lists g s r → Reaches l (r .listing)
+pub reaches-more : (l g : Listing) (s : List ℕ) (r : State) → Reaches l g → ListsAll g s r → Reaches l (r .listing)
 reaches-more l g s r before lists =
     let t = take (lists .part .0) s in (
       before .0 ++ t,

@@ -21,7 +21,7 @@ pub record Takes (l : Listing) (s : List ℕ) (r : Part) : Type 0 where
 
 -- "A small program that lists what it finds on standard input." (01, What the first build covers): as long as no write
 -- fails the listing is the one after all of the bytes s, and else after some first part of them
-pub record Lists (l : Listing) (s : List ℕ) (r : State) : Type 0 where
+pub record ListsAll (l : Listing) (s : List ℕ) (r : State) : Type 0 where
   pub whole : r .«is_open» ≡ true → r .listing ≡ after l s
   pub part : (n : ℕ) × (r .listing ≡ after l (take n s))
 

@@ -1,4 +1,5 @@
--- What the program's arguments ask for.
+-- What the program's arguments ask for. Document 01 has standard input alone, which no argument stands for too; the
+-- rest is in DECISIONS.
 use Prim.Native.Nat.{ℕ}
 use mathlib.Core.Bool.{Bool, true, false, cond, _&&_, _||_}
 use mathlib.Core.List.{List, [], _∷_}
@@ -19,7 +20,8 @@ isSame (a ∷ s) (b ∷ t) = eqb a b && isSame s t
 unfoldable pub namesNone : List ℕ → Bool
 namesNone s = eqb (length s) 0 || eqb (getD s 0 0) 45
 
--- what is asked for by an argument that is a dash, --help, --version, or names no file
+-- what an argument asks for, by the first of these that holds: it is a dash, --help, --version, or names no file; else
+-- it names one
 unfoldable pub choose : Bool → Bool → Bool → Bool → Request
 choose isDash isHelp isVersion isNone =
     cond isDash ListInput (cond isHelp Help (cond isVersion Version (cond isNone Misused ListFile)))
@@ -29,6 +31,7 @@ unfoldable pub readArgument : List ℕ → Request
 readArgument s =
     choose (isSame s (ascii "-")) (isSame s (ascii "--help")) (isSame s (ascii "--version")) (namesNone s)
 
--- what all arguments ask for: so many of them, the program's name among them, and the first after the name
+-- what the arguments ask for: `count` is how many there are, the program's name among them, and s is the first after
+-- the name
 unfoldable pub readRequest : ℕ → List ℕ → Request
 readRequest count s = cond (ltb count 2) ListInput (cond (ltb 2 count) Misused (readArgument s))

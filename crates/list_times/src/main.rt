@@ -14,7 +14,7 @@ ghost use Rattle.clock_time.specs.Lists.{ascii};
 ghost use Rattle.io.specs.Counts.{Counts};
 ghost use Rattle.listing_lines.specs.Totals.{totalsLine};
 ghost use Rattle.listing.specs.Listing.{textOf};
-ghost use Rattle.list_times.specs.Progress.{StartsWith, Takes, Lists, Reaches};
+ghost use Rattle.list_times.specs.Progress.{StartsWith, Takes, ListsAll, Reaches};
 
 // The state between two reads; `is_open` until a write fails.
 struct State {
@@ -75,7 +75,7 @@ fn write_part(listing: Listing, s: &[u8], out: &mut [u8; 65536]) -> Part
 
 // Writes the lines of the bytes s, as long as writing does not fail.
 fn write_lines(state: State, s: &[u8], out: &mut [u8; 65536]) -> State
-    ensures { λ r. ⌜ Lists (state .listing) (now (s .entry)) r ⌝ }
+    ensures { λ r. ⌜ ListsAll (state .listing) (now (s .entry)) r ⌝ }
 {
     let mut listing = state.listing;
     let mut i = 0;

@@ -12,7 +12,7 @@ use Rattle.framing.specs.Feed.{feedOf}
 use Rattle.framing.proofs.StepsLaws.{feed-taken, feed-complete}
 use Rattle.listing.specs.declared.Listing.{Listing}
 use Rattle.listing_lines.specs.declared.Totals.{Totals}
-use Rattle.listing.specs.declared.entry.Line.{Line}
+use Rattle.listing.specs.declared.entry.TextLine.{TextLine}
 use Rattle.listing.specs.Items.{Item, Within, itemOf, itemLine, Shows, counted}
 use Rattle.listing.specs.NextLine.{ListsNext}
 use Rattle.listing.proofs.ListingLaws.{Agrees, agrees}
@@ -37,7 +37,7 @@ module _ (l : Listing) (s : List ℕ) (r : FeedResult) (e : r ≡ feedOf (l .fra
   next-agrees = rw whole (agrees s l)
 
   pub lists-next : (i : Item) → i ≡ itemOf (r .framer .bytes) (r .event)
-      → (totals : Totals) → totals ≡ counted (l .totals) i → (line : Line) → Shows line i
+      → (totals : Totals) → totals ≡ counted (l .totals) i → (line : TextLine) → Shows line i
       → ListsNext l s
       (record { listing = record { framer = r .framer; totals = totals }; line = line; taken = r .taken })
   lists-next i q totals t line shows =

@@ -15,7 +15,7 @@ use Rattle.listing_lines.specs.Numeral.{numeral}
 use Rattle.listing_lines.specs.declared.Totals.{Totals}
 use Rattle.listing.specs.declared.entry.Entry.{Entry}
 use Rattle.listing.specs.declared.entry.Entry.the-variants as entries
-use Rattle.listing.specs.declared.entry.Line.{Line}
+use Rattle.listing.specs.declared.entry.TextLine.{TextLine}
 
 -- ---- reading a string
 -- the clock time of what was read; the listing shows no position
@@ -67,13 +67,13 @@ itemLine (string (refused k)) = ascii "refused " ++ numeral k ++ ascii "\n"
 itemLine overlong = ascii "dropped\n"
 
 -- the first `length` bytes of a text are an item's line
-pub record Shows (r : Line) (i : Item) : Type 0 where
+pub record Shows (r : TextLine) (i : Item) : Type 0 where
   pub short : r .length ≤ 35
   pub fits : r .length ≤ length (r .text)
   pub line : take (r .length) (r .text) ≡ itemLine i
 
 -- ---- totals
--- a count of 64 bits
+-- one more, as a count of 64 bits, which goes on with 0 after its highest
 abbrev pub oneMore : ℕ → ℕ
 oneMore n = (n + 1) % 2 ^ 64
 

@@ -20,7 +20,7 @@ pub(crate) enum Entry {
 }
 
 // A line of text, its line feed included: the first `length` bytes of `text`.
-pub(crate) struct Line {
+pub(crate) struct TextLine {
     pub(crate) text: [u8; 35],
     pub(crate) length: usize,
 }
@@ -48,7 +48,7 @@ fn read_string(s: &[u8]) -> Entry
     }
 }
 
-// The entry of an event, where `bytes` are those of the state after it.
+// The entry of an event; `bytes` are those of the state after it.
 pub(crate) fn entry_at(bytes: &[u8], event: Event) -> Entry
     requires { ⌜ Within event (now bytes) ⌝ }
     ensures { λ r. ⌜ entryItem r ≡ itemOf (now (bytes .entry)) event ⌝ }
@@ -84,7 +84,7 @@ pub(crate) fn count(t: Totals, entry: Entry) -> Totals
     }
 }
 
-fn refused_line(n: u8) -> Line
+fn refused_line(n: u8) -> TextLine
     requires { ⌜ n < 100 ⌝ }
     ensures { λ r. ⌜ Shows r (string (refused n)) ⌝ }
 {
@@ -92,29 +92,29 @@ fn refused_line(n: u8) -> Line
     if n < 10 {
         text[8] = 48 + n;
         text[9] = b'\n';
-        return Line { text, length: 10 };
+        return TextLine { text, length: 10 };
     }
     text[8] = 48 + n / 10;
     text[9] = 48 + n % 10;
     text[10] = b'\n';
-    Line { text, length: 11 }
+    TextLine { text, length: 11 }
 }
 
 // The line of an entry, empty if there is nothing to say.
-pub(crate) fn entry_line(entry: Entry) -> Line
+pub(crate) fn entry_line(entry: Entry) -> TextLine
     ensures { λ r. ⌜ Shows r (entryItem entry) ⌝ }
 {
     match entry {
-        Entry::Nothing => Line {
+        Entry::Nothing => TextLine {
             text: [0u8; 35],
             length: 0,
         },
-        Entry::Read(t) => Line {
+        Entry::Read(t) => TextLine {
             text: listing_lines::line::time_line(t),
             length: 35,
         },
         Entry::Refused(e) => refused_line(clock_time::error_number(e)),
-        Entry::Dropped => Line {
+        Entry::Dropped => TextLine {
             text: *b"dropped\n\0\0\0\0\0\0\0\0\0\0\0\0\0\0\0\0\0\0\0\0\0\0\0\0\0\0\0",
             length: 8,
         },

@@ -10,7 +10,7 @@ ghost use Rattle.listing.specs.NextLine.{ListsNext};
 
 mod entry;
 
-use entry::Line;
+use entry::TextLine;
 
 // The state between two bytes.
 pub struct Listing {
@@ -28,12 +28,12 @@ pub struct Listed {
 // The state after the bytes taken, and their line.
 struct LineResult {
     listing: Listing,
-    line: Line,
+    line: TextLine,
     taken: usize,
 }
 
 // Puts the line into `out` from `at` on.
-fn put_line(out: &mut [u8], at: usize, line: Line)
+fn put_line(out: &mut [u8], at: usize, line: TextLine)
     requires { ⌜ (at + line .length ≤ length (now out)) × (line .length ≤ length (line .text)) ⌝ }
     ensures { λ _. ⌜ now (out .exit) ≡ paste (now (out .entry)) at (line .text) (line .length) ⌝ }
 {

@@ -6,12 +6,11 @@ use native.Mathlib.Numerals.{add-one}
 use mathlib.Core.Path.{_≡_, refl, sym, ap, _∙_}
 use mathlib.Core.List.{List, [], _∷_, _++_, append-nil}
 use lib.ListN.{length, take, drop, set, length-set, length-drop, drop-of-length-le}
-use lib.Seq.{set-split, drop-at, length-take-le, append-snoc, take-length, take-all}
-use lib.Seq.{paste, length-paste, take-paste}
+use lib.Seq.{set-split, drop-at, length-take-le, append-snoc, take-length, take-all, paste, length-paste, take-paste}
 use Rattle.clock_time.specs.Lists.{ascii}
 use Rattle.listing_lines.specs.Numeral.{numeralWithin, numeral}
 use Rattle.listing_lines.specs.Totals.{totalsLine}
-use Rattle.listing_lines.specs.LastLine.{Spells, Extends, Shown}
+use Rattle.listing_lines.specs.LastLine.{SpellsNumeral, Extends, Shown}
 use Rattle.listing_lines.specs.declared.Totals.{Totals}
 use Rattle.listing_lines.specs.declared.last_line.Numeral.{Numeral}
 use Rattle.listing_lines.proofs.NumeralLaws.{within-zero, within-more}
@@ -60,7 +59,7 @@ module _ (n : ℕ) (d : List ℕ) (rest i : ℕ) (w : Spelt n d rest i) where
             ∙ ap (λ (k : ℕ). numeralWithin j (rest / 10) ++ drop k (set d i digit)) e;
       }
 
-  pub spelt-last : numeralWithin i rest ≡ digit ∷ [] → Spells (record { digits = set d i digit; start = i }) n
+  pub spelt-last : numeralWithin i rest ≡ digit ∷ [] → SpellsNumeral (record { digits = set d i digit; start = i }) n
   spelt-last h =
       record {
         within = w .within;
@@ -71,7 +70,7 @@ module _ (n : ℕ) (d : List ℕ) (rest i : ℕ) (w : Spelt n d rest i) where
       }
 
 pub spelt-end : (n : ℕ) (d : List ℕ) (rest i : ℕ) → Spelt n d rest i → i ≡ 0
-    → Spells (record { digits = set d 0 (48 + rest % 10); start = 0 }) n
+    → SpellsNumeral (record { digits = set d 0 (48 + rest % 10); start = 0 }) n
 spelt-end n d rest i w e = spelt-last n d rest 0 (rw e at w) (within-zero rest)
 
 -- ---- a text that grows
@@ -85,7 +84,7 @@ extends-paste d at s h =
     }
 
 -- the bytes of a number in decimal, as `&digits[start..]` has them
-pub extends-number : (d : List ℕ) (at : ℕ) (spelt : Numeral) (n : ℕ) (e : List ℕ) (end : ℕ) → Spells spelt n
+pub extends-number : (d : List ℕ) (at : ℕ) (spelt : Numeral) (n : ℕ) (e : List ℕ) (end : ℕ) → SpellsNumeral spelt n
     → Extends d at (take (20 - spelt .start) (drop (spelt .start) (spelt .digits))) e end
     → (end ≤ at + 20) × Extends d at (numeral n) e end
 extends-number d at spelt n e end h x = (

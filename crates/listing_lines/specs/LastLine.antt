@@ -10,7 +10,7 @@ use Rattle.listing_lines.specs.declared.last_line.Numeral.{Numeral}
 use Rattle.listing_lines.specs.declared.last_line.TotalsLine.{TotalsLine}
 
 -- the bytes from `start` on are the number in decimal
-pub record Spells (r : Numeral) (n : ℕ) : Type 0 where
+pub record SpellsNumeral (r : Numeral) (n : ℕ) : Type 0 where
   pub within : r .start ≤ 19
   pub size : length (r .digits) ≡ 20
   pub bytes : drop (r .start) (r .digits) ≡ numeral n

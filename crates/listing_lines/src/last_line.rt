@@ -5,7 +5,7 @@ ghost use Prim.Native.Nat.{_+_, _≤_};
 ghost use lib.ListN.{length};
 ghost use lib.Seq.{paste};
 ghost use Rattle.listing_lines.specs.Numeral.{numeral};
-ghost use Rattle.listing_lines.specs.LastLine.{Spells, Extends, Shown};
+ghost use Rattle.listing_lines.specs.LastLine.{SpellsNumeral, Extends, Shown};
 
 // A number in decimal: the bytes of `digits` from `start` on.
 struct Numeral {
@@ -20,7 +20,7 @@ pub(crate) struct TotalsLine {
 }
 
 fn numeral_of(n: u64) -> Numeral
-    ensures { λ r. ⌜ Spells r n ⌝ }
+    ensures { λ r. ⌜ SpellsNumeral r n ⌝ }
 {
     let mut digits = [0u8; 20];
     let mut rest = n;

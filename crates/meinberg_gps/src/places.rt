@@ -8,7 +8,7 @@ ghost use Rattle.clock_time.specs.Lists.{slice};
 ghost use Rattle.layout.specs.Layout.{fitsFrom, layoutError};
 ghost use Rattle.meinberg_gps.specs.Gps.{gpsLayout};
 
-// The layout in a picture, as the definition `gpsLayout` has it.
+// The layout as a pattern, as the definition `gpsLayout` has it.
 const GPS: [u8; 66] = *b"\x0200.00.00; 0; 00:00:00; ?00:00; uvxyzab; ??.????? ???.????? ????m\x03";
 
 // Whether every fixed byte after the flags stands.

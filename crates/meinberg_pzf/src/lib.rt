@@ -10,7 +10,7 @@ ghost use Rattle.clock_time.specs.Reading.{readAnswer};
 ghost use Rattle.layout.specs.Layout.{FitsLayout, fitsFrom, layoutError};
 ghost use Rattle.meinberg_pzf.specs.Pzf.{pzfLayout, pzfOffset, pzfFields, readPzf};
 
-// The layout in a picture, as the definition `pzfLayout` has it.
+// The layout as a pattern, as the definition `pzfLayout` has it.
 const PZF: [u8; 32] = *b"\x0200.00.00; 0; 00:00:00; tuvxyza\x03";
 
 // Whether every place has a byte that may stand there.

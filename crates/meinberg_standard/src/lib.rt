@@ -10,7 +10,7 @@ ghost use Rattle.clock_time.specs.Reading.{readAnswer};
 ghost use Rattle.layout.specs.Layout.{FitsLayout, fitsFrom, layoutError};
 ghost use Rattle.meinberg_standard.specs.Standard.{standardLayout, standardZone, standardFields, readStandard};
 
-// The layout in a picture, as the definition `standardLayout` has it.
+// The layout as a pattern, as the definition `standardLayout` has it.
 const STANDARD: [u8; 32] = *b"\x02D:00.00.00;T:0;U:00.00.00;uvXY\x03";
 
 // Whether every place has a byte that may stand there.

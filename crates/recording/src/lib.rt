@@ -52,8 +52,8 @@ fn is_unfit(marks: usize, outcomes: usize) -> bool
     (marks != outcomes) | (LONGEST < marks)
 }
 
-// Puts the number of every place into the outcomes. Refuses with LentMemory (20) if these do not fit the marks, or the
-// marks are more than 100,000.
+// Puts the number of every place into the outcomes. Refuses with LentMemory (20) if there are not as many outcomes
+// as marks, or more than 100,000 marks.
 pub fn fill_outcomes(marks: &[u8], outcomes: &mut [u32]) -> FillAnswer
     ensures { λ r. ⌜ filling r (now (outcomes .exit)) ≡ fillOutcomes (now (marks .entry)) (now (outcomes .entry)) ⌝ }
 {
@@ -73,8 +73,8 @@ fn put_mark(marks: &mut [u8], place: usize, mark: u8)
 }
 
 // Puts a new mark at a place, brings the outcomes up to date, and counts those that differ. Refuses with LentMemory
-// (20) if marks and outcomes do not fit, with Place (21) if there is no such place, then with NewMark (22) if the mark
-// is above 3.
+// (20) if there are not as many outcomes as marks, or more than 100,000 marks, with Place (21) if there is no such
+// place, then with NewMark (22) if the mark is above 3.
 pub fn correct_mark(marks: &mut [u8], outcomes: &mut [u32], place: usize, mark: u8) -> CorrectAnswer
     ensures { λ r. ⌜
         correction r (now (marks .exit)) (now (outcomes .exit))

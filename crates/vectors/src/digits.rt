@@ -6,7 +6,8 @@ use crate::numbers::Numbers;
 use crate::text::Text;
 use clock_time::WriteAnswer;
 
-// The number that the digits s are. A byte that is no digit is refused with 3, and 100 more for each place before it.
+// The number that the digits s are. A byte that is no digit gives NotDigit (3), and 100 more for each place before it;
+// more than 19 bytes give Length (1).
 pub fn read(s: &[u8]) -> u64 {
     match digit_run::read_digits(s) {
         DigitsRead::Number(number) => number,

@@ -45,7 +45,7 @@ fn sum_of_marks(m: &[u8]) -> u64 {
     sum
 }
 
-// Fills the first `count` outcomes; 20 where they are fewer.
+// Fills the first `count` outcomes; LentMemory (20) if there are fewer.
 fn fill_first(m: &[u8], o: &mut [u32], count: usize) -> u8 {
     if o.len() < count {
         return 20;

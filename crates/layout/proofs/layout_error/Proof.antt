@@ -1,7 +1,7 @@
 use borrow.Author.Needs.{needs}
 use Rattle.clock_time.proofs.Tests.{tests}
 use Rattle.layout.specs.Layout.{layoutError}
-use Rattle.layout.proofs.LayoutLaws.{length-pictured}
+use Rattle.layout.proofs.LayoutLaws.{length-patterned}
 use Rattle.layout.proofs.layout_error.Statement.{statement}
 use Rattle.layout.proofs.layout_error.Tie as tie
 
@@ -9,11 +9,11 @@ pub layout-error-spec : {M : Type 1} → statement M
 unfolding layoutError
 layout-error-spec =
     tie.close
-    (tie.spec (λ c. search (tests, length-pictured)) (λ c κs. search needs)
-    (λ c. search (tests, length-pictured, ← (c .before .first-offence .ensures))) (λ c κs. search needs)
+    (tie.spec (λ c. search (tests, length-patterned)) (λ c κs. search needs)
+    (λ c. search (tests, length-patterned, ← (c .before .first-offence .ensures))) (λ c κs. search needs)
     (λ c.
     let two = c .before .before .before in
-    search (tests, length-pictured, ← (two .first-offence .ensures), ← (c .before .first-offence2 .ensures)))
+    search (tests, length-patterned, ← (two .first-offence .ensures), ← (c .before .first-offence2 .ensures)))
     (λ c.
     let two = c .before .before .before in
-    search (tests, length-pictured, ← (two .first-offence .ensures), ← (c .before .first-offence2 .ensures))))
+    search (tests, length-patterned, ← (two .first-offence .ensures), ← (c .before .first-offence2 .ensures))))

@@ -1,11 +1,11 @@
 use borrow.Author.Needs.{needs}
 use borrow.Author.Tests.{ne-eqb}
-use Rattle.layout.specs.Layout.{picturePlace}
-use Rattle.layout.proofs.picture_place.Statement.{statement}
-use Rattle.layout.proofs.picture_place.Tie as tie
+use Rattle.layout.specs.Layout.{patternPlace}
+use Rattle.layout.proofs.pattern_place.Statement.{statement}
+use Rattle.layout.proofs.pattern_place.Tie as tie
 
 returns-11 : tie.Need-returns-11
-unfolding picturePlace
+unfolding patternPlace
 returns-11 c =
     let r = c .before .match .rest in
     simp (
@@ -22,9 +22,9 @@ returns-11 c =
     )
     (c .sample-place .ensures)
 
-pub picture-place-spec : {M : Type 1} → statement M
-unfolding picturePlace
-picture-place-spec =
+pub pattern-place-spec : {M : Type 1} → statement M
+unfolding patternPlace
+pattern-place-spec =
     tie.close
     (tie.spec (λ c κs. search needs) (λ c. rw (c .match .keys1)) (λ c. rw (c .match .keys2))
     (λ c. rw (c .match .keys3)) (λ c. rw (c .match .keys4)) (λ c. rw (c .match .keys5)) (λ c. rw (c .match .keys6))

@@ -22,7 +22,7 @@
  *
  * Threads. The library has no state: calls from several threads are safe, as long as none changes what another is lent.
  *
- * Stack. A call takes less than 1,024 bytes of stack; the most measured on x86-64 is 512, in radio_clock_read. */
+ * Stack. A call takes less than 1,024 bytes of stack; the most that was measured on x86-64 is about 300. */
 #ifndef RADIO_CLOCK_H
 #define RADIO_CLOCK_H
 

@@ -1,5 +1,5 @@
 # make                      this page
-# make test                 30 min   proves and runs everything from nothing; the last line is 'N passed, 0 failed'
+# make test                 40 min   proves and runs everything from nothing; the last line is 'N passed, 0 failed'
 # make list FILE=...         3 min*  the program lists FILE, or samples/capture.bin
 # make library               5 min*  target/staticlib/libradio_clock.a
 # make collector             5 min*  target/c/collector

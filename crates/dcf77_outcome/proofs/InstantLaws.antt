@@ -84,6 +84,22 @@ module _ (l s o an ch le : ℕ) (hs : s ≤ 1) (ho : o ≤ 1) (ha : an ≤ 1) (h
 
 -- ---- the number of an accepted minute
 module _ (m : List ℕ) (a : MinuteTime) (h : readMinute m ≡ accepted a) where
+  -- each of the five adds its bit once at most
+  s : mark (a .detail .sixty) ≤ 1
+  s = mark-most (a .detail .sixty)
+
+  o : mark (eqℤ (a .time .«utc_offset») (pos 120)) ≤ 1
+  o = mark-most (eqℤ (a .time .«utc_offset») (pos 120))
+
+  an : mark (a .time .«alternate_antenna») ≤ 1
+  an = mark-most (a .time .«alternate_antenna»)
+
+  ch : mark (a .time .«dst_change_announced») ≤ 1
+  ch = mark-most (a .time .«dst_change_announced»)
+
+  le : mark (a .time .«leap_second_announced») ≤ 1
+  le = mark-most (a .time .«leap_second_announced»)
+
   fit : Fits a
   fit = fits a (read-is-written m a .0 h .0)
 
@@ -95,11 +111,6 @@ module _ (m : List ℕ) (a : MinuteTime) (h : readMinute m ≡ accepted a) where
   in-range =
       let t = a .time in
       let days = days-small (t .year) (t .month) (t .day) (fit .supported-date) in
-      let s = mark-most (a .detail .sixty) in
-      let o = mark-most (eqℤ (t .«utc_offset») (pos 120)) in
-      let an = mark-most (t .«alternate_antenna») in
-      let ch = mark-most (t .«dst_change_announced») in
-      let le = mark-most (t .«leap_second_announced») in
       simp (
         le-leb 100 (outcomeNumber (accepted a)) (omega arith),
         le-leb (outcomeNumber (accepted a)) 1683072099
@@ -111,11 +122,6 @@ module _ (m : List ℕ) (a : MinuteTime) (h : readMinute m ≡ accepted a) where
   has-number =
       let t = a .time in
       let days = daysSinceEpoch (t .year) (t .month) (t .day) in
-      let s = mark-most (a .detail .sixty) in
-      let o = mark-most (eqℤ (t .«utc_offset») (pos 120)) in
-      let an = mark-most (t .«alternate_antenna») in
-      let ch = mark-most (t .«dst_change_announced») in
-      let le = mark-most (t .«leap_second_announced») in
       let minute : (1440 * days + 60 * t .hour + t .minute) % 60 ≡ t .minute = omega (arith, fit .minute) in
       rw (
         in-range,
@@ -133,11 +139,6 @@ module _ (m : List ℕ) (a : MinuteTime) (h : readMinute m ≡ accepted a) where
   instant-same =
       let t = a .time in
       let days = daysSinceEpoch (t .year) (t .month) (t .day) in
-      let s = mark-most (a .detail .sixty) in
-      let o = mark-most (eqℤ (t .«utc_offset») (pos 120)) in
-      let an = mark-most (t .«alternate_antenna») in
-      let ch = mark-most (t .«dst_change_announced») in
-      let le = mark-most (t .«leap_second_announced») in
       let seconds : 60 * (1440 * days + 60 * t .hour + t .minute)
       ≡ 86400 * days + (3600 * t .hour + 60 * t .minute + t .second) = omega (arith, fit .second) in
       rw (minutes-in _ _ _ _ _ _ s o an ch le, offset-in _ _ _ _ _ _ s o an ch le)

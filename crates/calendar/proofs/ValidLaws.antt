@@ -12,7 +12,7 @@ use Rattle.clock_time.proofs.Tests.{both}
 use Rattle.gregorian.specs.Date.{dateExists, fullYear, supportedDate, firstYear, lastYear}
 use Rattle.calendar.specs.TimeOfDay.{timeExists, utcMinute}
 use Rattle.calendar.specs.UnixTime.{offsetInRange, isReading}
-use Rattle.gregorian.proofs.DateLaws.{Known, known}
+use Rattle.gregorian.proofs.DateLaws.{Known, known, year-sum}
 
 pub sixty-most : (second : ℕ) (b : Bool) → (ltb second 60 || eqb second 60 && b) ≡ true → second ≤ 60
 sixty-most second b h = go (ltb second 60) refl h
@@ -65,8 +65,7 @@ valid t h =
 
 -- the year from 1970 to 2069 that ends in the last two digits of one of these years is that year
 pub full-year-last-two : (y : ℕ) → 1970 ≤ y → y ≤ 2069 → fullYear firstYear (y % 100) ≡ y
-unfolding fullYear
-full-year-last-two y first last = omega arith
+full-year-last-two y first last = omega (arith, year-sum (y % 100))
 
 -- the offsets of receivers that know UTC, CET and CEST
 pub zone-in-range : (utc summer : Bool) → offsetInRange (cond utc (pos 0) (cetOffset summer)) ≡ true

@@ -1,6 +1,8 @@
 // Days and weekdays of dates.
 use clock_time::ClockTime;
 use clock_time::Error;
+use gregorian::FIRST_YEAR;
+use gregorian::LAST_YEAR;
 ghost use mathlib.Core.Path.{_≡_};
 ghost use mathlib.Core.Bool.{true};
 ghost use Prim.Native.Nat.{_+_, _-_, _*_, _/_, _<_};
@@ -37,7 +39,7 @@ pub(crate) fn days_since_epoch(year: u16, month: u8, day: u8) -> u32
 pub fn day_number(year: u16, month: u8, day: u8) -> DateAnswer
     ensures { λ r. ⌜ dateAnswer r ≡ dayNumber year month day ⌝ }
 {
-    if gregorian::is_supported_date(year, month, day) {
+    if gregorian::is_supported_date(FIRST_YEAR, LAST_YEAR, year, month, day) {
         return DateAnswer::Number(days_since_epoch(year, month, day));
     }
     DateAnswer::Refused(Error::NoSuchDate)
@@ -55,7 +57,7 @@ fn weeks(days: u32) -> u32
 pub fn weekday_or_zero(year: u16, month: u8, day: u8) -> u8
     ensures { λ r. ⌜ r ≡ weekdayOrZero year month day ⌝ }
 {
-    if gregorian::is_supported_date(year, month, day) {
+    if gregorian::is_supported_date(FIRST_YEAR, LAST_YEAR, year, month, day) {
         let days = 3 + (year - 1970) as u32 + days_less_years(year, month, day);
         return 1 + (days - 7 * weeks(days)) as u8;
     }

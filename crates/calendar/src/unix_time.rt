@@ -3,6 +3,8 @@ use crate::date;
 use crate::time_of_day;
 use clock_time::ClockTime;
 use clock_time::Error;
+use gregorian::FIRST_YEAR;
+use gregorian::LAST_YEAR;
 ghost use mathlib.Core.Path.{_≡_};
 ghost use mathlib.Core.Bool.{true};
 ghost use Prim.Native.Nat.{_*_, _<_};
@@ -26,7 +28,7 @@ pub fn offset_in_range(offset: i16) -> bool
 pub fn is_reading(t: ClockTime) -> bool
     ensures { λ r. ⌜ r ≡ isReading t ⌝ }
 {
-    if gregorian::is_supported_date(t.year, t.month, t.day) {
+    if gregorian::is_supported_date(FIRST_YEAR, LAST_YEAR, t.year, t.month, t.day) {
         if (1 <= t.weekday) & (t.weekday <= 7) & offset_in_range(t.utc_offset) {
             return time_of_day::time_exists(t.hour, t.minute, t.second, t.utc_offset);
         }

@@ -9,6 +9,7 @@ use lib.ListN.{getD}
 use Rattle.clock_time.specs.Lists.{sum, slice}
 use Rattle.clock_time.proofs.ListsLaws.{slice-slice}
 use Rattle.gregorian.specs.Date.{fullYear, firstYear}
+use Rattle.gregorian.proofs.DateLaws.{year-sum}
 use Rattle.dcf77.specs.Marks.{binary, twoDigits, longs, bits}
 use Rattle.dcf77.specs.Minute.{withParity}
 use Rattle.dcf77.proofs.MarkLaws.{low-part, high-part}
@@ -72,5 +73,4 @@ unfolding twoDigits
 two-digits m at tens n low high = rw (low, high) (omega arith)
 
 pub year-digits : (n : ℕ) → n < 100 → (fullYear firstYear n % 10 ≡ n % 10) × (fullYear firstYear n / 10 % 10 ≡ n / 10)
-unfolding fullYear
-year-digits n h = (omega arith, omega arith)
+year-digits n h = rw (year-sum n) (omega arith, omega arith)

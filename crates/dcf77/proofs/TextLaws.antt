@@ -13,7 +13,7 @@ use Rattle.clock_time.specs.Zone.{cetOffset}
 use Rattle.clock_time.proofs.Tests.{both}
 use Rattle.clock_time.specs.Lists.{sum, slice}
 use Rattle.gregorian.specs.Date.{dateExists, supportedDate, fullYear, firstYear}
-use Rattle.gregorian.proofs.DateLaws.{Known, known}
+use Rattle.gregorian.proofs.DateLaws.{Known, known, year-sum}
 use Rattle.gregorian.proofs.RulesLaws.{date-exactly}
 use Rattle.calendar.specs.TimeOfDay.{timeExists}
 use Rattle.calendar.specs.Rules.{ReadingRules}
@@ -117,8 +117,9 @@ module _ (a : MinuteTime) (w : Fits a) where
   month-text = two-digits (minuteText a) 45 1 _ (spelled .month) (spelled .monthTens)
 
   year-text : fullYear firstYear (twoDigits 50 4 (minuteText a)) ≡ a .time .year
-  unfolding twoDigits fullYear
-  year-text = rw (spelled .year, spelled .decade) (omega (arith, date .year-least, date .year-most))
+  unfolding twoDigits
+  year-text =
+      year-sum _ ∙ rw (spelled .year, spelled .decade) (omega (arith, date .year-least, date .year-most))
 
   flags-text : (long 15 (minuteText a) ≡ a .time .«alternate_antenna»)
       × (long 16 (minuteText a) ≡ a .time .«dst_change_announced»)

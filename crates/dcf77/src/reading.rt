@@ -5,6 +5,7 @@ use crate::marks;
 use clock_time::ClockTime;
 use clock_time::Error;
 use clock_time::MinuteDetail;
+use gregorian::FIRST_YEAR;
 ghost use mathlib.Core.Path.{_≡_};
 ghost use mathlib.Core.Bool.{not, _&&_};
 ghost use mathlib.Core.List.{_++_};
@@ -35,7 +36,10 @@ fn announced_time(m: &[u8], minute: u32, hour: u32, date: u32) -> ClockTime
 {
     let summer = m[17] == 1;
     ClockTime {
-        year: gregorian::full_year((date / 16384 % 16 + 10 * (date / 262144 % 16)) as u8),
+        year: gregorian::full_year(
+            FIRST_YEAR,
+            (date / 16384 % 16 + 10 * (date / 262144 % 16)) as u8,
+        ),
         month: (date / 512 % 16 + 10 * (date / 8192 % 2)) as u8,
         day: (date % 16 + 10 * (date / 16 % 4)) as u8,
         weekday: (date / 64 % 8) as u8,

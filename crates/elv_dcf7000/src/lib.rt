@@ -2,6 +2,7 @@
 use clock_time::ClockTime;
 use clock_time::Error;
 use clock_time::ReadAnswer;
+use gregorian::FIRST_YEAR;
 ghost use mathlib.Core.Path.{_≡_};
 ghost use mathlib.Core.Bool.{true, false};
 ghost use lib.ListN.{length};
@@ -55,7 +56,7 @@ fn sent_fields(s: &[u8]) -> ClockTime
     let flags = s[19] % 16;
     let summer = flags % 2 == 1;
     ClockTime {
-        year: gregorian::full_year(date.first),
+        year: gregorian::full_year(FIRST_YEAR, date.first),
         month: date.second,
         day: date.third,
         weekday: 0,

@@ -17,6 +17,7 @@ use Rattle.clock_time.proofs.ListsLaws.{length-slice}
 use Rattle.decimal.specs.Decimal.{digits}
 use Rattle.decimal.proofs.DecimalLaws.{digits-value}
 use Rattle.gregorian.specs.Date.{fullYear, firstYear}
+use Rattle.gregorian.proofs.DateLaws.{year-sum}
 use Rattle.layout.specs.Layout.{flagOf, allowed, FitsLayout, number}
 use Rattle.layout.proofs.LayoutLaws.{flag-test}
 use Rattle.layout.proofs.LayoutLaws.{allDigits, place-within, slice-digits, number-below}
@@ -60,8 +61,7 @@ year-digits y =
     rw (tens, ones)
 
 full-year : (n : ℕ) → n < 100 → fullYear firstYear n % 100 ≡ n
-unfolding fullYear
-full-year n h = omega arith
+full-year n h = rw (year-sum n) (omega arith)
 
 module _ {l s : List ℕ} (h : FitsLayout l s) where
   pub digits-number : (n at : ℕ) → allDigits (slice at n l) ≡ true → digits n (number n at s) ≡ slice at n s

@@ -3,6 +3,8 @@
 use clock_time::ClockTime;
 use clock_time::Error;
 use clock_time::ReadAnswer;
+use gregorian::FIRST_YEAR;
+use gregorian::LAST_YEAR;
 ghost use mathlib.Core.Path.{_≡_};
 ghost use lib.ListN.{length};
 ghost use Rattle.clock_time.specs.Errors.{errorNumber, checked};
@@ -145,7 +147,7 @@ pub fn layout_error(pattern: &[u8], s: &[u8]) -> Error
 pub fn check_clock(t: ClockTime, mismatch: bool) -> ReadAnswer
     ensures { λ r. ⌜ readAnswer r ≡ checked (clockChecks (supportedDay t) t mismatch) t ⌝ }
 {
-    if !gregorian::is_supported_date(t.year, t.month, t.day) {
+    if !gregorian::is_supported_date(FIRST_YEAR, LAST_YEAR, t.year, t.month, t.day) {
         return ReadAnswer::Refused(Error::NoSuchDate);
     }
     if !calendar::time_of_day::time_exists(t.hour, t.minute, t.second, t.utc_offset) | mismatch {
@@ -162,7 +164,7 @@ pub fn check_clock(t: ClockTime, mismatch: bool) -> ReadAnswer
 pub fn check_without_weekday(t: ClockTime) -> ReadAnswer
     ensures { λ r. ⌜ readAnswer r ≡ checked (clockChecks (supportedDay t) (withWeekday t) false) (withWeekday t) ⌝ }
 {
-    if !gregorian::is_supported_date(t.year, t.month, t.day) {
+    if !gregorian::is_supported_date(FIRST_YEAR, LAST_YEAR, t.year, t.month, t.day) {
         return ReadAnswer::Refused(Error::NoSuchDate);
     }
     if !calendar::time_of_day::time_exists(t.hour, t.minute, t.second, t.utc_offset) {

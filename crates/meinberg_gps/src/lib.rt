@@ -3,6 +3,7 @@ use clock_time::ClockTime;
 use clock_time::Error;
 use clock_time::Position;
 use clock_time::ReadAnswer;
+use gregorian::FIRST_YEAR;
 use meinberg_gps_position::PositionAnswer;
 ghost use mathlib.Core.Path.{_≡_};
 ghost use lib.ListN.{length};
@@ -31,7 +32,7 @@ fn fields(s: &[u8]) -> ClockTime
     let date = layout_words::numbers_at(s, 1);
     let time = layout_words::numbers_at(s, 14);
     ClockTime {
-        year: gregorian::full_year(date.third),
+        year: gregorian::full_year(FIRST_YEAR, date.third),
         month: date.second,
         day: date.first,
         weekday: s[11] % 16,

@@ -2,6 +2,7 @@
 use clock_time::ClockTime;
 use clock_time::Error;
 use clock_time::ReadAnswer;
+use gregorian::FIRST_YEAR;
 ghost use mathlib.Core.Path.{_≡_};
 ghost use mathlib.Core.Bool.{true};
 ghost use lib.ListN.{length};
@@ -53,7 +54,7 @@ fn fields(s: &[u8]) -> ClockTime
     let utc = s[24] == b'U';
     let summer = s[27] == b'S';
     ClockTime {
-        year: gregorian::full_year(date.third),
+        year: gregorian::full_year(FIRST_YEAR, date.third),
         month: date.second,
         day: date.first,
         weekday: s[11] % 16,

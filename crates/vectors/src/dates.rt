@@ -7,6 +7,7 @@ use calendar::date;
 use calendar::date::DateAnswer;
 use calendar::time_of_day;
 use clock_time::Error;
+use gregorian::FIRST_YEAR;
 
 // The error at a place of the enum, which starts at 0.
 fn error_at(i: u8) -> Error {
@@ -62,7 +63,7 @@ pub fn answer(word: u64, v: &Numbers) -> u64 {
     let third = numbers::u8_at(v, 3);
     match word {
         commands::ERROR => clock_time::error_number(error_at(first)) as u64,
-        commands::YEAR => gregorian::full_year(first) as u64,
+        commands::YEAR => gregorian::full_year(FIRST_YEAR, first) as u64,
         commands::TIME => {
             time_of_day::time_exists(first, second, third, numbers::i16_at(v, 4)) as u64
         }

@@ -5,24 +5,30 @@ use mathlib.Core.List.{List}
 use lib.Dec.{eqb}
 use lib.IntN.{ℤ}
 use Rattle.clock_time.specs.Called.{leaving}
+use Rattle.clock_time.specs.Errors.{Answer}
 use Rattle.clock_time.specs.Writing.{Written}
 use Rattle.clock_time.specs.declared.ClockTime.{ClockTime}
 use Rattle.meinberg_standard.specs.Standard.{writeStandard}
 use Rattle.meinberg_pzf.specs.Pzf.{writePzf}
-use Rattle.meinberg_gps.specs.Gps.{writeGps}
 use Rattle.elv_dcf7000.specs.Elv.{writeElv}
 use Rattle.dcf77.specs.Minute.{writeMinute}
-use Rattle.time_string.specs.Kind.{kindNamed}
+use Rattle.layout.specs.Text.{writeText}
+use Rattle.time_string.specs.Kind.{Shape, withoutPosition, withPosition, Shaped, KindRow, kindRow, kindNamed}
 use Rattle.time_string.specs.declared.Kind.{Kind}
-use Rattle.time_string.specs.declared.Kind.the-variants.{Standard, Pzf, Gps, Elv}
 use Rattle.c_fields.specs.Ranges.{timeOf, gpsOf, minuteOf}
 
--- "For a writer: 23, 20" (01, Refusal numbers): as the kind's writer, after 23 if the numbers are no reading's
+-- what the numbers of a reading stand for, by whether it has a position
+abbrev pub shapedOf : (shape : Shape) → List ℤ → Answer (Shaped shape)
+shapedOf withoutPosition z = timeOf z
+shapedOf withPosition z = gpsOf z
+
+-- "For a writer: 23, 20" (01, Refusal numbers): as the writer of a row, after 23 if the numbers are no reading's
+abbrev pub writeRow : KindRow → List ℤ → List ℕ → Written
+writeRow r z buffer = leaving buffer (shapedOf (r .shape) z) (λ a. writeText (r .format) a buffer)
+
+-- the same of a kind
 unfoldable pub writeAs : Kind → List ℤ → List ℕ → Written
-writeAs Standard z buffer = leaving buffer (timeOf z) (λ t. writeStandard t buffer)
-writeAs Pzf z buffer = leaving buffer (timeOf z) (λ t. writePzf t buffer)
-writeAs Gps z buffer = leaving buffer (gpsOf z) (λ g. writeGps g buffer)
-writeAs Elv z buffer = leaving buffer (timeOf z) (λ t. writeElv t buffer)
+writeAs kind z buffer = writeRow (kindRow kind) z buffer
 
 -- the same for the kind that a number names, and 1 if it names none
 unfoldable pub writeFrom : ℕ → List ℤ → List ℕ → Written

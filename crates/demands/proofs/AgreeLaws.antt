@@ -2,7 +2,7 @@
 use Prim.Native.Nat.{ℕ, _<_}
 use mathlib.Core.Path.{_≡_, refl, ap}
 use mathlib.Core.Logic.{_↔_, _⊎_}
-use mathlib.Core.Bool.{Bool, true, false, not, _||_, false≢true}
+use mathlib.Core.Bool.{true, not, false≢true}
 use mathlib.Core.List.{List, [], _∷_, _++_}
 use lib.Dec.{leb, ltb}
 use lib.ListN.{length}
@@ -24,26 +24,24 @@ use Rattle.dcf77_outcome.proofs.Theorems.{minute-number-exactly}
 use Rattle.recording.specs.Recording.{unfit, correctionChecks}
 use Rattle.dcf77.specs.Lines.{minuteLines}
 use Rattle.time_string.specs.Kind.{namedKind}
+use Rattle.time_string.proofs.KindLaws.{kind-told, untold}
 use Rattle.demands.specs.Lines.{linesAs, kindLines, outcomeLines, fillLines, correctionLines, instantLines}
 use Rattle.demands.specs.Lines.{dateLines, numberCount, readLines, readMinuteLines, feedLines}
 use Rattle.demands.specs.Lines.{textOrder, ownNumbers, noRoomFor, outcomeTimeLines}
 use Rattle.demands.proofs.KindLaws.{kind-laws}
+use Rattle.demands.proofs.ReaderLaws.{unknown-exactly}
 use Rattle.demands.proofs.Checks.{checksAs, kindChecks, roomCheck, readChecks, readMinuteChecks}
-
--- ---- tests and what they say
-none-exactly : (a b c : Bool) {P Q R : Type 0} → ((a ≡ true) ↔ P) → ((b ≡ true) ↔ Q) → ((c ≡ true) ↔ R)
-    → (not (a || b || c) ≡ true) ↔ ((P → ⊥) × (Q → ⊥) × (R → ⊥))
-none-exactly true b c p q r = (λ h. absurd (false≢true h), λ n. absurd (n .0 (p .0 refl)))
-none-exactly false true c p q r = (λ h. absurd (false≢true h), λ n. absurd (n .1 (q .0 refl)))
-none-exactly false false true p q r = (λ h. absurd (false≢true h), λ n. absurd (n .2 (r .0 refl)))
-none-exactly false false false p q r =
-    (λ h. (λ x. false≢true (p .1 x), λ x. false≢true (q .1 x), λ x. false≢true (r .1 x)), λ n. refl)
 
 -- ---- strings and minutes
 pub kind-agrees : (s : List ℕ) → Agree (kindChecks s) (kindLines s)
-kind-agrees s =
-    let n = length s in
-    (refl, none-exactly _ _ _ (eq-exactly n 66) (eq-exactly n 32) (eq-exactly n 21), λ p. tt)
+kind-agrees s = (
+  refl,
+  (
+    λ h kind e. let some = kind-told kind .some s e in false≢true (rw (some .1) at h),
+    λ none. rw (untold s none) refl,
+  ),
+  λ p. tt,
+)
 
 -- ---- recordings
 pub outcome-agrees : (marks : List ℕ) (place : ℕ) →
@@ -80,7 +78,7 @@ room-agrees count fields = (refl, lt-exactly _ _, λ p. tt)
 pub read-agrees : (n : ℕ) (s : List ℕ) (fields : List ℤ) → Agree (readChecks n s fields) (readLines n s fields)
 read-agrees n s fields = (
   refl,
-  lt-exactly 3 n,
+  unknown-exactly n,
   λ p. agree-append (checksAs (namedKind n) s) (linesAs (namedKind n) s) _ _ (kind-laws (namedKind n) .agree s)
       (λ q. room-agrees (numberCount (namedKind n)) fields),
 )

@@ -48,7 +48,7 @@ use Rattle.dcf77.specs.Accepts.{AcceptsMinute}
 use Rattle.meinberg_gps_position.specs.Position.{positionFault, positionOf, readPosition}
 use Rattle.meinberg_gps_position.specs.Rules.{positionLines}
 use Rattle.meinberg_gps_position.proofs.Theorems as positions
-use Rattle.time_string.specs.Kind.{kindOf, namedKind, readAs}
+use Rattle.time_string.specs.Kind.{kindRow, kindOf, namedKind, readAs}
 use Rattle.time_string.specs.declared.Kind.{Kind}
 use Rattle.recording.specs.Recording.{rule, unfit, outcomeAt, fillOutcomes, recorded, correctionChecks, correctMark}
 use Rattle.listing_lines.specs.Line.{timeLine, writeLine}
@@ -66,8 +66,8 @@ use Rattle.demands.specs.Lines.{textOrder, ownNumbers, minuteOrder, line
 use Rattle.dcf77_outcome.specs.Instant.{isMinuteNumber, outcomeInstant, outcomeUnixTime}
 use Rattle.demands.specs.Lines.{fillLines, correctionLines, instantLines, dateLines, readLines, writeLines}
 use Rattle.demands.specs.Lines.{readMinuteLines, instantLinesOf, feedLines, outcomeTimeLines}
-use Rattle.demands.proofs.KindLaws.{kind-laws}
-use Rattle.demands.proofs.Checks.{kindChecks, readChecks, readMinuteChecks}
+use Rattle.demands.proofs.KindLaws.{kind-laws, row-checks}
+use Rattle.demands.proofs.Checks.{checksAs, readingAs, kindChecks, readChecks, readMinuteChecks}
 use Rattle.demands.proofs.OrderLaws.{ordered, by-tests, keeps, decided, agree-tests, positive-append}
 use Rattle.demands.proofs.OrderLaws.{from-answer, from-memory, from-both}
 use Rattle.demands.proofs.WriterLaws.{settled, writer-keeps}
@@ -83,10 +83,12 @@ tell-kind s =
 
 pub read-by-kind : (kind : Kind) (s : List ℕ)
     → RefusesInOrder (linesAs kind s) (textOrder (ownNumbers kind)) (readAs kind s)
+unfolding readAs
 read-by-kind kind s =
     let k = kind-laws kind in
     rw (← (k .order s))
-    (ordered (k .reading s) (k .checks s) (linesAs kind s) (k .agree s) (readAs kind s) (k .read-checks s))
+    (ordered (readingAs kind s) (checksAs kind s) (linesAs kind s) (k .agree s) (readAs kind s)
+    (row-checks (kindRow kind) s))
 
 pub read-standard : (s : List ℕ) → RefusesInOrder (standardLines s) (textOrder []) (readStandard s)
 unfolding readStandard readText standard

@@ -9,6 +9,7 @@ use lib.ListN.{length, take, drop}
 use lib.IntN.{ℤ, pos, _*ℤ_}
 use lib.Seq.{take-at}
 use Rattle.clock_time.specs.Called.{called, calledAnswer, calledMemory, calledBoth}
+use Rattle.clock_time.specs.Errors.{accepted}
 use Rattle.clock_time.specs.declared.ClockTime.{ClockTime}
 use Rattle.calendar.specs.Date.{dayNumber, weekdayOf}
 use Rattle.calendar.specs.UnixTime.{instantOf, unixTime}
@@ -35,13 +36,14 @@ use Rattle.meinberg_gps.specs.Accepts.{AcceptsGps}
 use Rattle.elv_dcf7000.specs.Accepts.{AcceptsElv}
 use Rattle.dcf77.specs.Accepts.{AcceptsMinute}
 use Rattle.calendar.specs.Days.{DayAfter, OnWeekday}
-use Rattle.time_string.specs.Kind.{Reading, readingTime, kindOf, kindNumber, namedKind, readAs}
+use Rattle.time_string.specs.Kind.{Reading, readingTime, kindOf, TellsKind, kindNumber, namedKind, readAs, AcceptsAs}
 use Rattle.time_string.specs.declared.Kind.{Kind}
+use Rattle.time_string.proofs.KindLaws.{kind-told}
 use Rattle.c_numbers.specs.Numbers.{minuteNumbers, minuteCount}
 use Rattle.c_writer.specs.Writers.{writeFrom, writeMinuteFrom}
 use Rattle.c_readings.specs.Strings.{kindNumberOf, readingNumbers, readInto, unixTimeOf}
 use Rattle.c_readings.specs.Minutes.{readMinuteInto}
-use Rattle.demands.specs.Accepted.{TellsKind, AcceptsAs, AcceptsNumbered, AcceptsNumbers, AcceptsMinuteNumbers}
+use Rattle.demands.specs.Accepted.{AcceptsNumbered, AcceptsNumbers, AcceptsMinuteNumbers}
 use Rattle.demands.specs.Exactly.{ReadsExactly, WritesExactly, CallAnswersExactly, CallReadsExactly}
 use Rattle.demands.specs.Exactly.{CallWritesExactly}
 use Rattle.dcf77_outcome.specs.Instant.{outcomeUnixTime}
@@ -59,7 +61,12 @@ pub tell-kind : (s : List ℕ) → ReadsExactly (TellsKind s) (kindOf s)
 tell-kind = reader.tells-exactly
 
 pub read-by-kind : (kind : Kind) (s : List ℕ) → ReadsExactly (AcceptsAs kind s) (readAs kind s)
+unfolding readAs
 read-by-kind kind = kind-laws kind .exactly
+
+-- what is accepted as a kind is told as that kind
+pub tell-accepted : (kind : Kind) (s : List ℕ) (r : Reading) → AcceptsAs kind s r → kindOf s ≡ accepted kind
+tell-accepted kind s r h = kind-told kind .told s (kind-laws kind .told s r h)
 
 pub read-standard : (s : List ℕ) → ReadsExactly (AcceptsStandard s) (readStandard s)
 read-standard = standards.faithful .reader .accepted-exactly

@@ -1,51 +1,61 @@
 -- Each reader's definition is its checks, in their order, and then what it gives.
 use Prim.Native.Nat.{ℕ}
-use mathlib.Core.Path.{_≡_, refl}
-use mathlib.Core.Bool.{Bool, true, false, cond, not, _||_}
+use mathlib.Core.Path.{_≡_, refl, ap, _∙_}
+use mathlib.Core.Bool.{Bool, true, false, cond, not}
 use mathlib.Core.List.{List, [], _∷_, _++_}
-use lib.Dec.{eqb}
 use lib.ListN.{length, drop}
 use lib.IntN.{ℤ}
-use Rattle.clock_time.specs.Errors.{accepted, refused, given, checked}
+use Rattle.clock_time.specs.Errors.{Answer, accepted, refused, given, checked}
+use Rattle.clock_time.specs.Called.{andThen}
 use Rattle.clock_time.specs.Exit.{leaves}
+use Rattle.clock_time.proofs.ErrorLaws.{apart}
 use Rattle.calendar.specs.UnixTime.{isReading, instantOf, unixTime}
-use Rattle.layout.specs.Layout.{has}
-use Rattle.time_string.specs.Kind.{kindOf, kindNumber, kindNamed, namedKind, readAs}
+use Rattle.time_string.specs.Kind.{kindRow, allKinds, isTold, firstTold, kindOf, kindNumber, kindNamed, namedKind}
+use Rattle.time_string.specs.Kind.{readAs}
 use Rattle.time_string.specs.declared.Kind.{Kind}
-use Rattle.time_string.specs.declared.Kind.the-variants.{Standard, Pzf, Gps, Elv}
+use Rattle.time_string.specs.declared.Kind.the-variants.{Standard}
 use Rattle.dcf77.specs.Minute.{minuteChecks, minuteFields, readMinute}
 use Rattle.c_numbers.specs.Numbers.{timeNumbers, minuteNumbers, putNumbers, putAnswer, minuteCount}
 use Rattle.c_fields.specs.Ranges.{timeRanges, fits, timeFrom, numbered}
 use Rattle.c_readings.specs.Strings.{kindNumberOf, readingNumbers, readNumbered, readInto, unixTimeOf}
 use Rattle.c_readings.specs.Minutes.{readMinuteInto}
 use Rattle.demands.specs.Lines.{numberCount}
-use Rattle.demands.proofs.KindLaws.{kind-laws}
-use Rattle.demands.proofs.Checks.{checksAs, readingAs, kindChecks, kindCheck, roomCheck, readChecks}
+use Rattle.demands.proofs.KindLaws.{row-checks, row-long}
+use Rattle.demands.proofs.Checks.{checksAs, readingAs, isUntold, kindChecks, kindCheck, roomCheck, readChecks}
 use Rattle.demands.proofs.Checks.{readMinuteChecks}
 use Rattle.demands.proofs.OrderLaws.{then-checked, then-leaves}
 
 -- ---- the kind of a string
+-- the kind that was told, any if none was
+abbrev toldIn : Answer Kind → Kind
+toldIn (accepted kind) = kind
+toldIn (refused n) = Standard
+
 abbrev pub toldKind : List ℕ → Kind
-toldKind s = cond (eqb (length s) 66) Gps (cond (eqb (length s) 32) (cond (has "D" 1 s) Standard Pzf) Elv)
+toldKind s = toldIn (kindOf s)
+
+refused-1 : (s : List ℕ) (n : ℕ) (ks : List Kind) → firstTold s ks ≡ refused n → n ≡ 1
+refused-1 s n [] h = cc
+refused-1 s n (k ∷ ks) h = go (isTold (kindRow k) s) h (refused-1 s n ks)
+  where
+    go : (t : Bool) → cond t (accepted k) (firstTold s ks) ≡ refused n → (firstTold s ks ≡ refused n → n ≡ 1) → n ≡ 1
+    go true e later = apart e
+    go false e later = later e
 
 pub kind-checks : (s : List ℕ) → kindOf s ≡ checked (kindChecks s) (toldKind s)
 unfolding kindOf
-kind-checks s = go (eqb (length s) 66) (eqb (length s) 32) (eqb (length s) 21)
+kind-checks s = go (firstTold s allKinds) (λ n. refused-1 s n allKinds)
   where
-    go : (a b c : Bool)
-        → cond a (accepted Gps)
-        (cond b (accepted (cond (has "D" 1 s) Standard Pzf)) (cond c (accepted Elv) (refused 1)))
-        ≡ checked (given 1 (not (a || b || c)) ∷ []) (cond a Gps (cond b (cond (has "D" 1 s) Standard Pzf) Elv))
-    go true b c = refl
-    go false true c = refl
-    go false false true = refl
-    go false false false = refl
+    go : (a : Answer Kind) → ((n : ℕ) → a ≡ refused n → n ≡ 1)
+        → a ≡ checked (given 1 (isUntold a) ∷ []) (toldIn a)
+    go (accepted kind) h = refl
+    go (refused n) h = ap refused (h n refl)
 
 pub kind-number-checks : (s : List ℕ) → kindNumberOf s ≡ checked (kindChecks s) (kindNumber (toldKind s))
 unfolding kindNumberOf
 kind-number-checks s =
-    rw (kind-checks s)
-    (then-checked (toldKind s) (kindNumber (toldKind s)) [] (λ k. accepted (kindNumber k)) refl (kindChecks s))
+    ap (λ (a : Answer Kind). andThen a (λ k. accepted (kindNumber k))) (kind-checks s)
+    ∙ then-checked (toldKind s) (kindNumber (toldKind s)) [] (λ k. accepted (kindNumber k)) refl (kindChecks s)
 
 pub kind-named : (n : ℕ) → kindNamed n ≡ checked (kindCheck n ∷ []) (namedKind n)
 unfolding kindNamed
@@ -54,11 +64,11 @@ kind-named n = refl
 -- ---- reading strings
 pub read-numbered-checks : (n : ℕ) (s : List ℕ)
     → readNumbered n s ≡ checked (kindCheck n ∷ checksAs (namedKind n) s) (readingAs (namedKind n) s)
-unfolding readNumbered
+unfolding readNumbered readAs
 read-numbered-checks n s =
     rw (kind-named n)
     (then-checked (namedKind n) (readingAs (namedKind n) s) (checksAs (namedKind n) s) (λ kind. readAs kind s)
-    (kind-laws (namedKind n) .read-checks s) (kindCheck n ∷ []))
+    (row-checks (kindRow (namedKind n)) s) (kindCheck n ∷ []))
 
 -- numbers in front of those lent
 abbrev pub inFront : List ℤ → List ℤ → List ℤ
@@ -78,7 +88,7 @@ read-checks n s fields =
     rw (read-numbered-checks n s)
     (then-leaves a tt (roomCheck (numberCount (namedKind n)) fields ∷ []) fields (inFront (readingNumbers a) fields)
     (λ x. putNumbers (readingNumbers x) fields)
-    (put-checks readingNumbers fields a (numberCount (namedKind n)) (kind-laws (namedKind n) .long s))
+    (put-checks readingNumbers fields a (numberCount (namedKind n)) (row-long (kindRow (namedKind n)) s))
     (kindCheck n ∷ checksAs (namedKind n) s))
 
 -- ---- minutes

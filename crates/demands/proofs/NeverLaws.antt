@@ -5,7 +5,6 @@ use mathlib.Core.Bool.{not}
 use mathlib.Core.List.{List, [], _∷_}
 use lib.IntN.{ℤ}
 use Rattle.clock_time.specs.Errors.{refused, given}
-use Rattle.clock_time.proofs.ExactLaws.{lt-exactly}
 use Rattle.calendar.specs.UnixTime.{instantOf}
 use Rattle.dcf77.specs.Minute.{readMinute}
 use Rattle.dcf77_outcome.specs.Instant.{outcomeUnixTime}
@@ -15,6 +14,7 @@ use Rattle.c_readings.specs.Strings.{kindNumberOf, readNumbered, unixTimeOf}
 use Rattle.demands.specs.Lines.{textOrder, ownNumbers, minuteOrder, kindLines, linesAs, unknownKind}
 use Rattle.demands.specs.Lines.{instantLinesOf}
 use Rattle.demands.proofs.KindLaws.{kind-laws}
+use Rattle.demands.proofs.ReaderLaws.{unknown-exactly}
 use Rattle.demands.proofs.Checks.{checksAs, readingAs, kindCheck, kindChecks}
 use Rattle.demands.proofs.EntryLaws as entry
 use Rattle.demands.proofs.AgreeLaws as agrees
@@ -35,7 +35,7 @@ read-0 n s =
     (rw (← (kind-laws (namedKind n) .order s))
     (ordered (readingAs (namedKind n) s) (kindCheck n ∷ checksAs (namedKind n) s)
     (unknownKind n ∷ linesAs (namedKind n) s)
-    (refl, lt-exactly 3 n, λ p. kind-laws (namedKind n) .agree s) (readNumbered n s)
+    (refl, unknown-exactly n, λ p. kind-laws (namedKind n) .agree s) (readNumbered n s)
     (entry.read-numbered-checks n s)))
 
 pub minute-0 : (m : List ℕ) → readMinute m ≡ refused 0 → ⊥

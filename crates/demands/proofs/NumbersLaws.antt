@@ -6,47 +6,45 @@ use mathlib.Core.Bool.{Bool, true, false, true≢false}
 use mathlib.Core.List.{List, [], _∷_, _++_, append-nil}
 use lib.ListN.{length}
 use lib.IntN.{ℤ}
-use lib.Dec.{ltb}
+use lib.Dec.{leb}
 use Rattle.clock_time.specs.Errors.{refused}
 use Rattle.clock_time.specs.Exit.{exit}
 use Rattle.clock_time.specs.Called.{calledBoth}
 use Rattle.clock_time.proofs.ErrorLaws.{accepted-passes}
-use Rattle.clock_time.proofs.ExactLaws.{lt-exactly}
 use Rattle.calendar.specs.Rules.{ValidReading}
 use Rattle.dcf77.specs.Minute.{writeMinute}
 use Rattle.dcf77.specs.declared.MinuteTime.{MinuteTime}
 use Rattle.dcf77.proofs.Theorems as minutes
-use Rattle.time_string.specs.Kind.{kindNumber, namedKind, Reading, time, timeAndPosition, readingTime}
+use Rattle.time_string.specs.Kind.{Reading, time, timeAndPosition, readingTime, kindRow, allKinds, kindNumber}
+use Rattle.time_string.specs.Kind.{namedKind, readAs, AcceptsAs}
 use Rattle.time_string.specs.declared.Kind.{Kind}
 use Rattle.c_numbers.specs.Numbers.{timeNumbers, gpsNumbers, minuteNumbers, minuteCount}
 use Rattle.c_fields.specs.Ranges.{minuteOf}
 use Rattle.c_fields.proofs.Theorems as fields
 use Rattle.c_writer.specs.Writers.{writeAs, writeFrom, writeMinuteFrom}
 use Rattle.c_readings.specs.Strings.{readingNumbers}
-use Rattle.demands.specs.Accepted.{AcceptsAs, AcceptsNumbered, AcceptsNumbers, AcceptsMinuteNumbers}
+use Rattle.demands.specs.Accepted.{AcceptsNumbered, AcceptsNumbers, AcceptsMinuteNumbers}
 use Rattle.demands.specs.Lines.{numberCount, writeLines}
 use Rattle.demands.specs.Exactly.{WritesExactly, CallWritesExactly}
 use Rattle.demands.proofs.OrderLaws.{Decided, decided-after}
 use Rattle.demands.proofs.WriterLaws.{Settled, settled, settled-same, writer-decided, numbers-settled}
 use Rattle.demands.proofs.WriterLaws.{writes-exactly, call-writes-exactly}
 use Rattle.demands.proofs.FitsLaws.{valid-fits, marks-small}
-use Rattle.demands.proofs.KindLaws.{kind-laws, numbered-23}
-use Rattle.demands.proofs.Checks.{kindCheck}
+use Rattle.demands.proofs.KindLaws.{kind-laws, row-checks, row-long, numbered-23}
+use Rattle.demands.proofs.Checks.{checksAs, readingAs, kindCheck}
 use Rattle.demands.proofs.EntryLaws.{kind-named}
-use Rattle.demands.proofs.ReaderLaws.{named-exactly}
+use Rattle.demands.proofs.ReaderLaws.{number-named, named-exactly, unknown-exactly}
 
 -- ---- writing by the kind that a number names
-number-named : (n : ℕ) → ltb 3 n ≡ false → n ≡ kindNumber (namedKind n)
-number-named n e = named-exactly n (namedKind n) .0 (rw (kind-named n, e) refl)
-
 -- a kind's number is known, and names it
-named-number : (n : ℕ) (kind : Kind) → n ≡ kindNumber kind → (ltb 3 n ≡ false) × (namedKind n ≡ kind)
+named-number : (n : ℕ) (kind : Kind) → n ≡ kindNumber kind → (leb (length allKinds) n ≡ false) × (namedKind n ≡ kind)
 named-number n kind e =
     let w = accepted-passes (kindCheck n ∷ []) (namedKind n) kind (sym (kind-named n) ∙ named-exactly n kind .1 e) in
     (w .0 .0, sym (w .1))
 
-numbered-settled : (n : ℕ) → ltb 3 n ≡ false → (z : List ℤ) (d : List ℕ)
+numbered-settled : (n : ℕ) → leb (length allKinds) n ≡ false → (z : List ℤ) (d : List ℕ)
     → Settled (λ s. AcceptsNumbers n s z) d (writeAs (namedKind n) z d)
+unfolding writeAs
 numbered-settled n known z d =
     settled-same (λ s. (
       λ h. (h .0, ((namedKind n, (number-named n known, h .1 .0)), h .1 .1)),
@@ -56,28 +54,28 @@ numbered-settled n known z d =
     )) (kind-laws (namedKind n) .settles z d)
 
 module _ (n : ℕ) (z : List ℤ) (d : List ℕ) where
-  from-known : ltb 3 n ≡ false → writeFrom n z d ≡ writeAs (namedKind n) z d
+  from-known : leb (length allKinds) n ≡ false → writeFrom n z d ≡ writeAs (namedKind n) z d
   unfolding writeFrom
   from-known e = rw (kind-named n, e)
 
-  from-unknown : ltb 3 n ≡ true → writeFrom n z d ≡ exit (refused 1) d
+  from-unknown : leb (length allKinds) n ≡ true → writeFrom n z d ≡ exit (refused 1) d
   unfolding writeFrom
   from-unknown e = rw (kind-named n, e)
 
-  known-settled : ltb 3 n ≡ false → Settled (λ s. AcceptsNumbers n s z) d (writeFrom n z d)
+  known-settled : leb (length allKinds) n ≡ false → Settled (λ s. AcceptsNumbers n s z) d (writeFrom n z d)
   known-settled e = rw (from-known e) (numbered-settled n e z d)
 
   pub from-decided : Decided (writeLines n z d) d (writeFrom n z d)
   from-decided =
-      decided-after _ (ltb 3 n) 0 (lt-exactly 3 n) from-unknown (λ e. writer-decided (known-settled e))
+      decided-after _ (leb (length allKinds) n) 0 (unknown-exactly n) from-unknown (λ e. writer-decided (known-settled e))
 
-  unknown-none : ltb 3 n ≡ true → (s : List ℕ) → AcceptsNumbers n s z → ⊥
+  unknown-none : leb (length allKinds) n ≡ true → (s : List ℕ) → AcceptsNumbers n s z → ⊥
   unknown-none e s h = true≢false (sym e ∙ named-number n (h .1 .0 .0) (h .1 .0 .1 .0) .0)
 
   pub from-exactly : WritesExactly (λ s. AcceptsNumbers n s z) d (writeFrom n z d)
-  from-exactly = go (ltb 3 n) refl
+  from-exactly = go (leb (length allKinds) n) refl
     where
-      go : (b : Bool) → ltb 3 n ≡ b → WritesExactly (λ s. AcceptsNumbers n s z) d (writeFrom n z d)
+      go : (b : Bool) → leb (length allKinds) n ≡ b → WritesExactly (λ s. AcceptsNumbers n s z) d (writeFrom n z d)
       go false e = writes-exactly (known-settled e)
       go true e =
           rw (from-unknown e) (record {
@@ -86,9 +84,9 @@ module _ (n : ℕ) (z : List ℤ) (d : List ℕ) where
           })
 
   pub call-from-exactly : (old : ℕ) → CallWritesExactly (λ s. AcceptsNumbers n s z) d (calledBoth old (writeFrom n z d))
-  call-from-exactly old = go (ltb 3 n) refl
+  call-from-exactly old = go (leb (length allKinds) n) refl
     where
-      go : (b : Bool) → ltb 3 n ≡ b → CallWritesExactly (λ s. AcceptsNumbers n s z) d (calledBoth old (writeFrom n z d))
+      go : (b : Bool) → leb (length allKinds) n ≡ b → CallWritesExactly (λ s. AcceptsNumbers n s z) d (calledBoth old (writeFrom n z d))
       go false e = call-writes-exactly (known-settled e) old
       go true e =
           rw (from-unknown e) (record {
@@ -123,9 +121,10 @@ module _ (n : ℕ) (s : List ℕ) (r : Reading) where
   pub numbers-long : AcceptsNumbered n s r → length (readingNumbers r) ≡ numberCount (namedKind n)
   numbers-long h =
       let kind = h .0 in
-      let k = kind-laws kind in
-      let w = accepted-passes (k .checks s) (k .reading s) r (sym (k .read-checks s) ∙ k .exactly s r .1 (h .1 .1)) in
-      rw (named-number n kind (h .1 .0) .1, w .1) (k .long s)
+      let row = kindRow kind in
+      let read = kind-laws kind .exactly s r .1 (h .1 .1) in
+      let w = accepted-passes (checksAs kind s) (readingAs kind s) r (sym (row-checks row s) ∙ read) in
+      rw (named-number n kind (h .1 .0) .1, w .1) (row-long row s)
 
   -- the first 14 are those of a valid reading
   pub valid-numbers : AcceptsNumbered n s r

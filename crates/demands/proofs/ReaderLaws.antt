@@ -1,56 +1,53 @@
 -- Which strings and runs are accepted, by kind and by what a call from C leaves.
-use Prim.Native.Nat.{ℕ, zero, suc}
+use Prim.Native.Nat.{ℕ, zero, suc, _+_, _<_}
 use native.Mathlib.Decide.{decLe}
 use native.Mathlib.Nat.{lt-of-not-le}
 use native.Mathlib.Omega.{arith}
 use mathlib.Core.Path.{_≡_, refl, sym, ap, subst, _∙_}
-use mathlib.Core.Bool.{Bool, true, false, cond}
-use mathlib.Core.List.{List}
-use lib.Dec.{eqb}
+use mathlib.Core.Bool.{Bool, true, false, cond, _&&_}
+use mathlib.Core.Logic.{_↔_}
+use mathlib.Core.List.{List, [], _∷_}
+use lib.Dec.{eqb, leb}
 use lib.ListN.{length, getD}
 use lib.IntN.{ℤ}
-use Prim.Native.Char.{code}
-use borrow.Author.Tests.{eqb-true, eqb-false, ne-eqb}
-use Rattle.clock_time.specs.Errors.{Answer, accepted, refused}
+use borrow.Author.Tests.{eqb-true, eqb-false, leb-true, leb-false, not-true}
+use Rattle.clock_time.specs.Errors.{Answer, accepted, refused, given}
 use Rattle.clock_time.specs.Called.{Called, called, calledAnswer, calledMemory, andThen}
-use Rattle.clock_time.proofs.ErrorLaws.{apart}
-use Rattle.time_string.specs.Kind.{kindOf, kindNumber, kindNamed, readAs}
-use Rattle.time_string.proofs.KindLaws.{named-number, kind-unknown}
+use Rattle.clock_time.proofs.ErrorLaws.{apart, accepted-passes}
+use Rattle.clock_time.proofs.Tests.{both}
+use Rattle.time_string.specs.Kind.{Mark, anyByte, letterD, otherByte, isMarked, Marked, kindRow, allKinds, isTold}
+use Rattle.time_string.specs.Kind.{firstTold, kindOf, TellsKind, kindNumber, namedKind, kindNamed, readAs}
+use Rattle.time_string.proofs.KindLaws.{kind-told, kind-unknown}
 use Rattle.time_string.specs.declared.Kind.{Kind}
-use Rattle.time_string.specs.declared.Kind.the-variants.{Standard, Pzf, Gps, Elv}
+use Rattle.time_string.specs.declared.Kind.the-variants.{Standard}
 use Rattle.c_numbers.specs.Numbers.{putAnswer}
 use Rattle.c_numbers.proofs.NumberLaws.{put-no-room, put-room}
 use Rattle.c_readings.specs.Strings.{kindNumberOf, readNumbered}
-use Rattle.demands.specs.Accepted.{TellsKind, AcceptsNumbered}
+use Rattle.demands.specs.Accepted.{AcceptsNumbered}
 use Rattle.demands.specs.Exactly.{ReadsExactly, CallAnswersExactly, CallReadsExactly}
 use Rattle.demands.proofs.KindLaws.{kind-laws}
 
 -- ---- the kind of a string
+marked : (m : Mark) (s : List ℕ) → isMarked m s ≡ true → Marked m s
+marked anyByte s h = tt
+marked letterD s h = eqb-true _ _ h
+marked otherByte s h = eqb-false _ _ (not-true _ h)
+
+tells-first : (s : List ℕ) (kind : Kind) (ks : List Kind) → firstTold s ks ≡ accepted kind → TellsKind s kind
+tells-first s kind [] h = apart (sym h)
+tells-first s kind (k ∷ ks) h = go (isTold (kindRow k) s) refl h (tells-first s kind ks)
+  where
+    go : (t : Bool) → isTold (kindRow k) s ≡ t → cond t (accepted k) (firstTold s ks) ≡ accepted kind
+        → (firstTold s ks ≡ accepted kind → TellsKind s kind) → TellsKind s kind
+    go true e h later =
+        let w = both (eqb (length s) (kindRow k .long)) (isMarked (kindRow k .mark) s) e in
+        let same : k ≡ kind = cc in
+        subst (TellsKind s) same (eqb-true _ _ (w .0), marked (kindRow k .mark) s (w .1))
+    go false e h later = later h
+
 pub tells-exactly : (s : List ℕ) → ReadsExactly (TellsKind s) (kindOf s)
 unfolding kindOf
-tells-exactly s kind = (told, telling kind)
-  where
-    go : (a b c d : Bool) → eqb (length s) 66 ≡ a → eqb (length s) 32 ≡ b → eqb (length s) 21 ≡ c
-        → eqb (getD s 1 0) (code "D") ≡ d
-        → cond a (accepted Gps) (cond b (accepted (cond d Standard Pzf)) (cond c (accepted Elv) (refused 1)))
-        ≡ accepted kind
-        → TellsKind s kind
-    go true b c d p q r t h = let e : Gps ≡ kind = cc in subst (TellsKind s) e (eqb-true _ _ p)
-    go false true c true p q r t h =
-        let e : Standard ≡ kind = cc in subst (TellsKind s) e (eqb-true _ _ q, eqb-true _ _ t)
-    go false true c false p q r t h =
-        let e : Pzf ≡ kind = cc in subst (TellsKind s) e (eqb-true _ _ q, eqb-false _ _ t)
-    go false false true d p q r t h = let e : Elv ≡ kind = cc in subst (TellsKind s) e (eqb-true _ _ r)
-    go false false false d p q r t h = apart (sym h)
-
-    told : kindOf s ≡ accepted kind → TellsKind s kind
-    told h = go _ _ _ _ refl refl refl refl h
-
-    telling : (k : Kind) → TellsKind s k → kindOf s ≡ accepted k
-    telling Gps h = rw h refl
-    telling Standard h = rw (h .0, h .1) refl
-    telling Pzf h = rw (h .0, ne-eqb _ _ (h .1)) refl
-    telling Elv h = rw h refl
+tells-exactly s kind = (tells-first s kind allKinds, kind-told kind .told s)
 
 -- one answer after another
 module _ {A B : Type 0} {P : A → Type 0} {Q : A → B → Type 0} (go : A → Answer B)
@@ -72,22 +69,48 @@ kind-number-exactly s =
     (tells-exactly s)
 
 -- ---- by the kind that a number names
+-- the kinds of a list have the numbers from i on
+abbrev inOrder : ℕ → List Kind → Bool
+inOrder i [] = true
+inOrder i (k ∷ ks) = eqb i (kindNumber k) && inOrder (suc i) ks
+
+number-at : (i : ℕ) (ks : List Kind) → inOrder i ks ≡ true → (n : ℕ) → n < length ks
+    → i + n ≡ kindNumber (getD ks n Standard)
+number-at i [] h n below = absurd (omega (arith, below))
+number-at i (k ∷ ks) h zero below =
+    let w = both (eqb i (kindNumber k)) (inOrder (suc i) ks) h in
+    omega (arith, eqb-true i (kindNumber k) (w .0))
+number-at i (k ∷ ks) h (suc n) below =
+    let w = both (eqb i (kindNumber k)) (inOrder (suc i) ks) h in
+    let rest = number-at (suc i) ks (w .1) n (omega (arith, below)) in
+    omega (arith, rest)
+
+-- a number that is known is that of the kind that it names
+pub number-named : (n : ℕ) → leb (length allKinds) n ≡ false → n ≡ kindNumber (namedKind n)
+number-named n e = let h = number-at 0 allKinds refl n (leb-false _ _ e) in omega (arith, h)
+
 pub named-exactly : (n : ℕ) → ReadsExactly (λ kind. n ≡ kindNumber kind) (kindNamed n)
 unfolding kindNamed
-named-exactly n kind = (named n, λ e. rw e (named-number kind))
+named-exactly n kind = (named, λ e. rw e (kind-told kind .named))
   where
-    numbered : {k : Kind} → accepted k ≡ accepted kind → kindNumber k ≡ kindNumber kind
-    numbered {k} e = let same : k ≡ kind = cc in ap kindNumber same
+    named : kindNamed n ≡ accepted kind → n ≡ kindNumber kind
+    named h =
+        let w = accepted-passes (given 1 (leb (length allKinds) n) ∷ []) (namedKind n) kind h in
+        number-named n (w .0 .0) ∙ ap kindNumber (sym (w .1))
 
-    named : (n : ℕ) → kindNamed n ≡ accepted kind → n ≡ kindNumber kind
-    named zero h = numbered h
-    named (suc zero) h = numbered h
-    named (suc (suc zero)) h = numbered h
-    named (suc (suc (suc zero))) h = numbered h
-    named (suc (suc (suc (suc n)))) h = apart (sym h ∙ kind-unknown (suc (suc (suc (suc n)))) (omega arith))
+-- it is unknown exactly if no kind has it
+pub unknown-exactly : (n : ℕ) → (leb (length allKinds) n ≡ true) ↔ ((kind : Kind) → n ≡ kindNumber kind → ⊥)
+unknown-exactly n = (
+  λ h kind e. apart (sym (named-exactly n kind .1 e) ∙ kind-unknown n (leb-true _ _ h)),
+  go (leb (length allKinds) n) refl,
+)
+  where
+    go : (t : Bool) → leb (length allKinds) n ≡ t → ((kind : Kind) → n ≡ kindNumber kind → ⊥) → t ≡ true
+    go true e none = refl
+    go false e none = absurd (none (namedKind n) (number-named n e))
 
 pub numbered-exactly : (n : ℕ) (s : List ℕ) → ReadsExactly (AcceptsNumbered n s) (readNumbered n s)
-unfolding readNumbered
+unfolding readNumbered readAs
 numbered-exactly n s =
     then-exactly (λ kind. readAs kind s) (λ kind. kind-laws kind .exactly s) (kindNamed n) (named-exactly n)
 

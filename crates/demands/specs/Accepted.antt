@@ -1,25 +1,15 @@
--- Which strings and runs of marks are accepted, and as which readings: by kind, and by the numbers that C has.
+-- Which strings and runs of marks are accepted, by the numbers that C has.
 use Prim.Native.Nat.{ℕ}
 use mathlib.Core.Path.{_≡_}
 use mathlib.Core.List.{List}
 use lib.IntN.{ℤ}
 use Rattle.dcf77.specs.Accepts.{AcceptsMinute}
 use Rattle.dcf77.specs.declared.MinuteTime.{MinuteTime}
-use Rattle.time_string.specs.Kind.{kindNumber, Reading}
+use Rattle.time_string.specs.Kind.{kindNumber, Reading, AcceptsAs}
 use Rattle.time_string.specs.declared.Kind.{Kind}
 use Rattle.c_numbers.specs.Numbers.{minuteNumbers}
 use Rattle.c_readings.specs.Strings.{readingNumbers}
-use Rattle.demands.specs.Kinds.{kindRules}
 
--- the bytes of a string tell its kind
-abbrev pub TellsKind : List ℕ → Kind → Type 0
-TellsKind s kind = kindRules kind .Tells s
-
--- a string of a kind is accepted as a reading
-abbrev pub AcceptsAs : Kind → List ℕ → Reading → Type 0
-AcceptsAs kind s r = kindRules kind .Accepts s r
-
--- ---- from C
 -- the kind is named by its number
 abbrev pub AcceptsNumbered : ℕ → List ℕ → Reading → Type 0
 AcceptsNumbered n s r = (kind : Kind) × ((n ≡ kindNumber kind) × AcceptsAs kind s r)

@@ -1,7 +1,6 @@
--- What the contracts speak of: refusals in an order, what each kind of string is, the lines of each entry, what is
--- accepted and as what, the instant, the number at a place, and what is taken of a stream.
+-- What the contracts speak of: refusals in an order, the lines of each entry, what is accepted and as what, the instant,
+-- the number at a place, and what is taken of a stream.
 pub mod Refusals
-pub mod Kinds
 pub mod Accepted
 pub mod Lines
 pub mod Exactly

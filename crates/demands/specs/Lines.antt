@@ -1,5 +1,5 @@
 -- The lines of document 01's table of refusals that each entry goes by, in words and in their order.
-use Prim.Native.Nat.{ℕ, _≤_, _<_}
+use Prim.Native.Nat.{ℕ, suc, _≤_, _<_}
 use mathlib.Core.Path.{_≡_}
 use mathlib.Core.Logic.{_⊎_}
 use mathlib.Core.List.{List, [], _∷_, _++_}
@@ -11,10 +11,9 @@ use Rattle.gregorian.specs.Rules.{GregorianDate}
 use Rattle.calendar.specs.Rules.{ValidReading}
 use Rattle.dcf77.specs.Lines.{minuteLines}
 use Rattle.dcf77_outcome.specs.RunNumber.{HasMinute}
-use Rattle.time_string.specs.Kind.{namedKind}
+use Rattle.time_string.specs.Kind.{Shape, withoutPosition, withPosition, kindRow, kindNumber, namedKind}
 use Rattle.time_string.specs.declared.Kind.{Kind}
-use Rattle.c_numbers.specs.Numbers.{timeNumbers, minuteCount, timeCount}
-use Rattle.demands.specs.Kinds.{kindRules}
+use Rattle.c_numbers.specs.Numbers.{timeNumbers, timeCount, gpsCount, minuteCount}
 use Rattle.demands.specs.Accepted.{AcceptsNumbers}
 
 -- ---- the orders
@@ -24,7 +23,7 @@ textOrder own = 1 ∷ 2 ∷ 3 ∷ 4 ∷ own ++ (5 ∷ 6 ∷ 7 ∷ [])
 
 -- a kind's own numbers
 abbrev pub ownNumbers : Kind → List ℕ
-ownNumbers kind = kindRules kind .own
+ownNumbers kind = kindRow kind .own
 
 -- "For a minute: 11, 12, 13, 14, 15, 16, 17, 18, 7, 5, 6, 19" (01, Refusal numbers)
 abbrev pub minuteOrder : List ℕ
@@ -33,12 +32,12 @@ minuteOrder = 11 ∷ 12 ∷ 13 ∷ 14 ∷ 15 ∷ 16 ∷ 17 ∷ 18 ∷ 7 ∷ 5 �
 -- ---- strings
 -- the lines of a string of a kind
 abbrev pub linesAs : Kind → List ℕ → List Line
-linesAs kind s = kindRules kind .lines s
+linesAs kind s = kindRow kind .lines s
 
 -- "66 long is GPS; 32 long is standard [..], else PZF; 21 long is ELV; any other length is refused with 1." (01,
 -- Meinberg and ELV strings)
 abbrev pub kindLines : List ℕ → List Line
-kindLines s = line 1 ((length s ≡ 66 → ⊥) × (length s ≡ 32 → ⊥) × (length s ≡ 21 → ⊥)) ∷ []
+kindLines s = line 1 ((kind : Kind) → length s ≡ kindRow kind .long → ⊥) ∷ []
 
 -- ---- writers
 -- "For a writer: 23, 20" (01, Refusal numbers); `Reads s` says that the string or run s is read as what is to
@@ -89,11 +88,16 @@ dateLines year month day = line 5 ((1970 ≤ year) × (year ≤ 2069) × Gregori
 -- ---- from C
 -- "an unknown kind number from C gives 1" (01, Meinberg and ELV strings)
 abbrev pub unknownKind : ℕ → Line
-unknownKind n = line 1 (3 < n)
+unknownKind n = line 1 ((kind : Kind) → n ≡ kindNumber kind → ⊥)
+
+-- how many numbers a reading has, with a position and without
+abbrev pub shapeCount : Shape → ℕ
+shapeCount withoutPosition = timeCount
+shapeCount withPosition = gpsCount
 
 -- how many numbers a reading of a kind has
 abbrev pub numberCount : Kind → ℕ
-numberCount kind = kindRules kind .count
+numberCount kind = shapeCount (kindRow kind .shape)
 
 -- 20: "lent memory: [..] a buffer too short to write to" (01, Refusal numbers): so many numbers are to be put
 abbrev pub noRoomFor : ℕ → List ℤ → Line

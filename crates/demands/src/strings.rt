@@ -19,10 +19,9 @@ ghost use Rattle.meinberg_gps.specs.Lines.{gpsLines};
 ghost use Rattle.meinberg_gps.specs.Gps.{gpsAnswer};
 ghost use Rattle.elv_dcf7000.specs.Accepts.{AcceptsElv};
 ghost use Rattle.elv_dcf7000.specs.Lines.{elvLines};
-ghost use Rattle.time_string.specs.Kind.{kindAnswer, timeAnswer};
+ghost use Rattle.time_string.specs.Kind.{kindAnswer, TellsKind, timeAnswer, AcceptsAs};
 ghost use Rattle.demands.specs.Refusals.{RefusesInOrder, RefusesAndKeeps};
 ghost use Rattle.demands.specs.Lines.{textOrder, ownNumbers, kindLines, linesAs, writerLines};
-ghost use Rattle.demands.specs.Accepted.{TellsKind, AcceptsAs};
 ghost use Rattle.demands.specs.Exactly.{ReadsExactly, WritesExactly};
 
 fn kind_of(s: &[u8]) -> KindAnswer

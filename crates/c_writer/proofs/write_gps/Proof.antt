@@ -1,10 +1,11 @@
 use borrow.Author.Needs.{needs}
+use Rattle.meinberg_gps.specs.Gps.{writeGps}
 use Rattle.c_writer.specs.Writers.{writeAs}
 use Rattle.c_writer.proofs.write_gps.Statement.{statement}
 use Rattle.c_writer.proofs.write_gps.Tie as tie
 
 pub write-gps-spec : {M : Type 1} → statement M
-unfolding writeAs
+unfolding writeAs writeGps
 write-gps-spec =
     tie.close
     (tie.spec (λ c κs. search needs) (λ c. search needs) (λ c κs. search needs) (λ c. search needs) (λ c. search needs)

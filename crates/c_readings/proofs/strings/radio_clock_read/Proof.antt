@@ -1,5 +1,9 @@
 use borrow.Author.Needs.{needs}
 use native.Mathlib.Omega.{arith}
+use Rattle.meinberg_standard.specs.Standard.{readStandard}
+use Rattle.meinberg_pzf.specs.Pzf.{readPzf}
+use Rattle.meinberg_gps.specs.Gps.{readGps, writtenGps}
+use Rattle.elv_dcf7000.specs.Elv.{readElv}
 use Rattle.time_string.specs.Kind.{kindNamed, readAs}
 use Rattle.time_string.proofs.KindLaws.{kind-unknown}
 use Rattle.c_numbers.specs.Numbers.{putAnswer}
@@ -13,7 +17,7 @@ unfolding readInto readNumbered putAnswer
 returns-5 c = rw (kind-unknown (c .before .before .before .before .before .args .kind) (omega arith))
 
 pub radio-clock-read-spec : {M : Type 1} → statement M
-unfolding readInto readNumbered kindNamed readAs
+unfolding readInto readNumbered kindNamed readAs readStandard readPzf readGps writtenGps readElv
 radio-clock-read-spec =
     tie.close
     (tie.spec (λ c κs. search needs) (λ c κs. search needs) (λ c. search needs)

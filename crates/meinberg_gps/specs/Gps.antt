@@ -12,10 +12,9 @@ use Rattle.clock_time.specs.Writing.{Written}
 use Rattle.clock_time.specs.declared.ClockTime.{ClockTime}
 use Rattle.clock_time.specs.declared.Position.{Position}
 use Rattle.clock_time.specs.Lists.{ascii, slice}
-use Rattle.gregorian.specs.Date.{fullYear, firstYear}
 use Rattle.decimal.specs.Decimal.{digits}
 use Rattle.layout.specs.Layout.{digit, free, flag, places, number, has}
-use Rattle.layout.specs.Text.{Format, WrittenFormat, supportedDay, clockChecks, readText, writeText, letter}
+use Rattle.layout.specs.Text.{Format, WrittenFormat, supportedDay, clockWithFlags, clockChecks, readText, writeText, letter}
 use Rattle.signed.specs.Signed.{signed, signHolds}
 use Rattle.signed.specs.Offset.{offsetText}
 use Rattle.meinberg_gps_position.specs.Position.{positionFault, positionOf, positionText}
@@ -60,23 +59,7 @@ leapMismatch s = not (Bool·beq (has "L" 38 s) (eqb (number 2 20 s) 60))
 -- "u `#`, v `*`, x `S`, y `!`, z `A`, a `R`, or blank"; "The offset rules; x is only the summer flag." (01, Meinberg
 -- and ELV strings)
 unfoldable pub clockOf : List ℕ → ClockTime
-clockOf s =
-    record {
-      year = fullYear firstYear (number 2 7 s);
-      month = number 2 4 s;
-      day = number 2 1 s;
-      weekday = number 1 11 s;
-      hour = number 2 14 s;
-      minute = number 2 17 s;
-      second = number 2 20 s;
-      «utc_offset» = offsetOf s;
-      unsynchronised = has "#" 32 s;
-      unverified = has "*" 33 s;
-      «summer_time» = has "S" 34 s;
-      «dst_change_announced» = has "!" 35 s;
-      «leap_second_announced» = has "A" 36 s;
-      «alternate_antenna» = has "R" 37 s;
-    }
+clockOf s = clockWithFlags s 1 11 14 32 (offsetOf s)
 
 -- what is left to check once the offset and the position hold
 abbrev pub readClock : List ℕ → Position → Answer GpsTime

@@ -9,10 +9,9 @@ use Rattle.clock_time.specs.Same.{eqℤ}
 use Rattle.clock_time.specs.Writing.{Written}
 use Rattle.clock_time.specs.declared.ClockTime.{ClockTime}
 use Rattle.clock_time.specs.Lists.{ascii}
-use Rattle.gregorian.specs.Date.{fullYear, firstYear}
 use Rattle.decimal.specs.Decimal.{digits}
-use Rattle.layout.specs.Layout.{digit, flag, places, number, has}
-use Rattle.layout.specs.Text.{Format, clockFormat, writtenClock, readText, writeText, letter}
+use Rattle.layout.specs.Layout.{digit, flag, places, has}
+use Rattle.layout.specs.Text.{Format, clockWithFlags, clockFormat, writtenClock, readText, writeText, letter}
 
 -- "`STX dd.mm.yy; w; hh:mm:ss; tuvxyza ETX`. Flags at 24..30: t `U`, u `#`, v `*`, x `S`, y `!`, z `A`, a `R`, or
 -- blank." (01, Meinberg and ELV strings)
@@ -31,23 +30,7 @@ pzfOffset utc summer = cond utc (pos 0) (cetOffset summer)
 -- (01, Meinberg and ELV strings): in turn UTC, unsynchronised, unverified, summer time, change coming, leap second
 -- coming and alternate antenna
 unfoldable pub pzfFields : List ℕ → ClockTime
-pzfFields s =
-    record {
-      year = fullYear firstYear (number 2 7 s);
-      month = number 2 4 s;
-      day = number 2 1 s;
-      weekday = number 1 11 s;
-      hour = number 2 14 s;
-      minute = number 2 17 s;
-      second = number 2 20 s;
-      «utc_offset» = pzfOffset (has "U" 24 s) (has "S" 27 s);
-      unsynchronised = has "#" 25 s;
-      unverified = has "*" 26 s;
-      «summer_time» = has "S" 27 s;
-      «dst_change_announced» = has "!" 28 s;
-      «leap_second_announced» = has "A" 29 s;
-      «alternate_antenna» = has "R" 30 s;
-    }
+pzfFields s = clockWithFlags s 1 11 14 25 (pzfOffset (has "U" 24 s) (has "S" 27 s))
 
 -- the layout with the fields of a clock time and seven letters in it
 abbrev pub lineWith : ClockTime → ℕ → ℕ → ℕ → ℕ → ℕ → ℕ → ℕ → List ℕ

@@ -12,10 +12,9 @@ use Rattle.clock_time.specs.Same.{eqℤ}
 use Rattle.clock_time.specs.Writing.{Written}
 use Rattle.clock_time.specs.declared.ClockTime.{ClockTime}
 use Rattle.clock_time.specs.Lists.{ascii}
-use Rattle.gregorian.specs.Date.{fullYear, firstYear}
 use Rattle.decimal.specs.Decimal.{digits}
-use Rattle.layout.specs.Layout.{digit, flag, either, places, number, has}
-use Rattle.layout.specs.Text.{Format, clockFormat, writtenClock, readText, writeText, letter}
+use Rattle.layout.specs.Layout.{digit, flag, either, places, has}
+use Rattle.layout.specs.Text.{Format, clockAt, clockFormat, writtenClock, readText, writeText, letter}
 
 -- "`STX D:dd.mm.yy;T:w;U:hh.mm.ss;uvxy ETX` (the blanks beside STX and ETX are only for print). [..] The time has dots:
 -- 002 shows colons in the layout, dots in its pattern. Dots hold." (01, Meinberg and ELV strings)
@@ -34,22 +33,8 @@ standardZone x = cond (eqb x (code "U")) (pos 0) (cetOffset (eqb x (code "S")))
 -- (leap second coming) or blank. [..] 002 counts Sunday as 0; 1..7 holds." (01, Meinberg and ELV strings)
 unfoldable pub standardFields : List ℕ → ClockTime
 standardFields s =
-    record {
-      year = fullYear firstYear (number 2 9 s);
-      month = number 2 6 s;
-      day = number 2 3 s;
-      weekday = number 1 14 s;
-      hour = number 2 18 s;
-      minute = number 2 21 s;
-      second = number 2 24 s;
-      «utc_offset» = standardZone (getD s 29 0);
-      unsynchronised = has "#" 27 s;
-      unverified = has "*" 28 s;
-      «summer_time» = has "S" 29 s;
-      «dst_change_announced» = has "!" 30 s;
-      «leap_second_announced» = has "A" 30 s;
-      «alternate_antenna» = false;
-    }
+    clockAt s 3 14 18 (standardZone (getD s 29 0)) (has "#" 27 s) (has "*" 28 s) (has "S" 29 s) (has "!" 30 s)
+    (has "A" 30 s) false
 
 -- the only letter of a zone that could be read as an offset and a summer flag
 unfoldable pub zoneLetter : ℤ → Bool → ℕ

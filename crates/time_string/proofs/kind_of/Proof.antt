@@ -1,18 +1,28 @@
 use borrow.Author.Needs.{needs}
-use borrow.Author.Tests.{ne-eqb}
-use mathlib.Core.Path.{refl, sym}
-use Rattle.time_string.specs.Kind.{kindOf}
+use Prim.Native.Nat.{ℕ}
+use mathlib.Core.Path.{_≡_, sym}
+use mathlib.Core.List.{List}
+use denote.Ref.{now}
+use lib.ListN.{length}
+use Rattle.time_string.specs.Kind.{kindRow}
+use Rattle.time_string.specs.declared.Kind.{Kind}
 use Rattle.time_string.specs.declared.Kind.the-variants.{Standard, Pzf, Gps, Elv}
-use Rattle.time_string.proofs.KindLaws.{kind-told}
+use Rattle.time_string.proofs.KindLaws.{kind-told, untold}
 use Rattle.time_string.proofs.kind_of.Statement.{statement}
 use Rattle.time_string.proofs.kind_of.Tie as tie
 
 -- no kind has the length
 returns-5 : tie.Need-returns-5
-unfolding kindOf
-returns-5 c =
-    let d = c .before in
-    rw (ne-eqb _ _ (c .if4 .left), ne-eqb _ _ (d .if2 .left), ne-eqb _ _ (d .before .if1 .left)) refl
+returns-5 c = sym (untold s none)
+  where
+    s : List ℕ
+    s = now (c .before .before .before .args .s)
+
+    none : (kind : Kind) → length s ≡ kindRow kind .long → ⊥
+    none Standard = c .before .if2 .left
+    none Pzf = c .before .if2 .left
+    none Gps = c .before .before .if1 .left
+    none Elv = c .if4 .left
 
 pub kind-of-spec : {M : Type 1} → statement M
 kind-of-spec =

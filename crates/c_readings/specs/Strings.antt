@@ -5,7 +5,8 @@ use lib.IntN.{ℤ}
 use Rattle.clock_time.specs.Errors.{Answer, accepted}
 use Rattle.clock_time.specs.Exit.{Exit}
 use Rattle.calendar.specs.UnixTime.{unixTime}
-use Rattle.time_string.specs.Kind.{kindOf, kindNumber, kindNamed, Reading, time, timeAndPosition, readAs}
+use Rattle.time_string.specs.Row.{Reading, time, timeAndPosition, Shape, withoutPosition, withPosition, Shaped}
+use Rattle.time_string.specs.Kind.{kindOf, kindNumber, kindNamed, readAs}
 use Rattle.clock_time.specs.Called.{andThen}
 use Rattle.c_numbers.specs.Numbers.{timeNumbers, gpsNumbers, putAnswer}
 use Rattle.c_fields.specs.Ranges.{firstTimeOf}
@@ -19,6 +20,11 @@ kindNumberOf s = andThen (kindOf s) (λ k. accepted (kindNumber k))
 abbrev pub readingNumbers : Reading → List ℤ
 readingNumbers (time t) = timeNumbers t
 readingNumbers (timeAndPosition g) = gpsNumbers g
+
+-- the same by its shape
+abbrev pub shapedNumbers : (shape : Shape) → Shaped shape → List ℤ
+shapedNumbers withoutPosition t = timeNumbers t
+shapedNumbers withPosition g = gpsNumbers g
 
 -- "The caller names the kind; an unknown kind number from C gives 1." (01, Meinberg and ELV strings)
 unfoldable pub readNumbered : ℕ → List ℕ → Answer Reading

@@ -26,8 +26,8 @@ pub extern "C" fn radio_clock_outcome_at(marks: &[u8], place: usize, number: &mu
     }
 }
 
-// Leaves the Unix time that the outcome of an accepted minute announces behind `time`. Refuses with Unrepresentable (23)
-// if no accepted minute has the outcome.
+// Leaves the Unix time that the outcome of an accepted minute announces behind `time`. Refuses with Unrepresentable
+// (23) if no accepted minute has the outcome.
 #[no_mangle]
 pub extern "C" fn radio_clock_outcome_unix_time(outcome: u32, time: &mut i64) -> u8
     ensures { λ r. ⌜

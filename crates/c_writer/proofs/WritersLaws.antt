@@ -11,7 +11,8 @@ use lib.ListN.{length}
 use Rattle.meinberg_standard.specs.Standard.{writeStandard}
 use Rattle.meinberg_pzf.specs.Pzf.{writePzf}
 use Rattle.elv_dcf7000.specs.Elv.{writeElv}
-use Rattle.time_string.specs.Kind.{allKinds, kindNamed}
+use Rattle.time_string.specs.Row.{allKinds}
+use Rattle.time_string.specs.Kind.{kindNamed}
 use Rattle.time_string.proofs.KindLaws.{kind-unknown}
 use Rattle.c_writer.specs.Writers.{writeAs, writeFrom, writeTime, writeTimeFrom}
 

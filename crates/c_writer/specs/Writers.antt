@@ -13,7 +13,8 @@ use Rattle.meinberg_pzf.specs.Pzf.{writePzf}
 use Rattle.elv_dcf7000.specs.Elv.{writeElv}
 use Rattle.dcf77.specs.Minute.{writeMinute}
 use Rattle.layout.specs.Text.{writeText}
-use Rattle.time_string.specs.Kind.{Shape, withoutPosition, withPosition, Shaped, KindRow, kindRow, kindNamed}
+use Rattle.time_string.specs.Row.{Shape, withoutPosition, withPosition, Shaped, KindRow, kindRow}
+use Rattle.time_string.specs.Kind.{kindNamed}
 use Rattle.time_string.specs.declared.Kind.{Kind}
 use Rattle.c_fields.specs.Ranges.{timeOf, gpsOf, minuteOf}
 
@@ -22,7 +23,8 @@ abbrev pub shapedOf : (shape : Shape) → List ℤ → Answer (Shaped shape)
 shapedOf withoutPosition z = timeOf z
 shapedOf withPosition z = gpsOf z
 
--- "For a writer: 23, 20" (01, Refusal numbers): as the writer of a row, after 23 if the numbers are no reading's
+-- "For a writer: 23, 20" (01, Refusal numbers): 23 if the numbers are no reading's, else what the writer of the row's
+-- format leaves
 abbrev pub writeRow : KindRow → List ℤ → List ℕ → Written
 writeRow r z buffer = leaving buffer (shapedOf (r .shape) z) (λ a. writeText (r .format) a buffer)
 
@@ -30,11 +32,11 @@ writeRow r z buffer = leaving buffer (shapedOf (r .shape) z) (λ a. writeText (r
 unfoldable pub writeAs : Kind → List ℤ → List ℕ → Written
 writeAs kind z buffer = writeRow (kindRow kind) z buffer
 
--- the same for the kind that a number names, and 1 if it names none
+-- the same for the kind that a number names; "an unknown kind number from C gives 1" (01, Meinberg and ELV strings)
 unfoldable pub writeFrom : ℕ → List ℤ → List ℕ → Written
 writeFrom n z buffer = leaving buffer (kindNamed n) (λ kind. writeAs kind z buffer)
 
--- the same as the minute's writer
+-- the same of a minute
 unfoldable pub writeMinuteFrom : List ℤ → List ℕ → Written
 writeMinuteFrom z buffer = leaving buffer (minuteOf z) (λ a. writeMinute a buffer)
 

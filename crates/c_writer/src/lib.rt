@@ -23,6 +23,7 @@ fn write_time(kind: u8, t: ClockTime, out: &mut [u8]) -> WriteAnswer
     elv_dcf7000_writer::write_elv(t, out)
 }
 
+// The same from the numbers of a clock time.
 fn write_time_from(kind: u8, fields: &[i32], out: &mut [u8]) -> WriteAnswer
     ensures { λ r. ⌜ written r (now (out .exit)) ≡ writeTimeFrom kind (now (fields .entry)) (now (out .entry)) ⌝ }
 {
@@ -32,6 +33,7 @@ fn write_time_from(kind: u8, fields: &[i32], out: &mut [u8]) -> WriteAnswer
     }
 }
 
+// Writes the numbers of a clock time and position as a GPS string.
 fn write_gps(fields: &[i32], out: &mut [u8]) -> WriteAnswer
     ensures { λ r. ⌜ written r (now (out .exit)) ≡ writeAs Kind.Gps (now (fields .entry)) (now (out .entry)) ⌝ }
 {
@@ -41,9 +43,9 @@ fn write_gps(fields: &[i32], out: &mut [u8]) -> WriteAnswer
     }
 }
 
-// Writes numbers as a string of the kind that a number names to the front of `out`. Refuses with Length (1) if it names
-// none, with Unrepresentable (23) if no such string is read as the numbers, then with LentMemory (20) if there is no
-// room.
+// Writes the numbers of a reading to the front of `out`, as a string of the kind that `kind` names. Refuses with Length
+// (1) if it names none, with Unrepresentable (23) if no such string is read as the numbers, then with LentMemory (20)
+// if there is no room.
 pub fn write_string(kind: u8, fields: &[i32], out: &mut [u8]) -> WriteAnswer
     ensures { λ r. ⌜ written r (now (out .exit)) ≡ writeFrom kind (now (fields .entry)) (now (out .entry)) ⌝ }
 {

@@ -106,7 +106,8 @@ module _ (n : ℕ) (h : isMinuteNumber n ≡ true) where
       let time : timeExists (minutes n / 60 % 24) (minutes n % 60) 0 (cetOffset (bit 8 n)) ≡ true =
       simp (lt-ltb _ _ hour, lt-ltb _ _ sixtieth) in
       let reading =
-      checked-representable (minuteOf n d .time) date time (omega arith) (omega arith) (zone-in-range false (bit 8 n)) in
+      checked-representable (minuteOf n d .time) date time (omega arith) (omega arith)
+      (zone-in-range false (bit 8 n)) in
       simp (rw (← last-bit) at (passes .1), eqℤ-refl (cetOffset (bit 8 n)), reading)
 
   number : outcomeNumber (accepted (minuteOf n (days .0))) ≡ n

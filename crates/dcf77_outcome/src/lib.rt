@@ -109,8 +109,8 @@ fn is_minute_number(number: u32) -> bool
     !((sent / 16 % 2 == 1) & !((sent % 2 == 1) & (sent / 32 % 60 == 0)))
 }
 
-// The Unix time that the number of an accepted minute announces. Refuses with Unrepresentable (23) if no accepted minute
-// has the number.
+// The Unix time that the number of an accepted minute announces. Refuses with Unrepresentable (23) if no accepted
+// minute has the number.
 pub fn outcome_unix_time(number: u32) -> UnixTime
     ensures { λ r. ⌜ unixTimeAnswer r ≡ outcomeUnixTime number ⌝ }
 {

@@ -9,7 +9,8 @@ use Rattle.c_numbers.specs.Numbers.{minuteCount}
 use Rattle.clock_time.specs.Errors.{Answer, accepted, refused, Check, given}
 use Rattle.dcf77.specs.Minute.{minuteChecks}
 use Rattle.layout.specs.Text.{textChecks}
-use Rattle.time_string.specs.Kind.{Reading, asReading, kindRow, allKinds, kindOf, namedKind}
+use Rattle.time_string.specs.Row.{Reading, asReading, kindRow, allKinds}
+use Rattle.time_string.specs.Kind.{kindOf, namedKind}
 use Rattle.time_string.specs.declared.Kind.{Kind}
 use Rattle.demands.specs.Lines.{numberCount}
 

@@ -48,7 +48,8 @@ use Rattle.dcf77.specs.Accepts.{AcceptsMinute}
 use Rattle.meinberg_gps_position.specs.Position.{positionFault, positionOf, readPosition}
 use Rattle.meinberg_gps_position.specs.Rules.{positionLines}
 use Rattle.meinberg_gps_position.proofs.Theorems as positions
-use Rattle.time_string.specs.Kind.{kindRow, kindOf, namedKind, readAs}
+use Rattle.time_string.specs.Row.{kindRow}
+use Rattle.time_string.specs.Kind.{kindOf, namedKind, readAs}
 use Rattle.time_string.specs.declared.Kind.{Kind}
 use Rattle.recording.specs.Recording.{rule, unfit, outcomeAt, fillOutcomes, recorded, correctionChecks, correctMark}
 use Rattle.listing_lines.specs.Line.{timeLine, writeLine}

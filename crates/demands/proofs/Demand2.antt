@@ -36,7 +36,9 @@ use Rattle.meinberg_gps.specs.Accepts.{AcceptsGps}
 use Rattle.elv_dcf7000.specs.Accepts.{AcceptsElv}
 use Rattle.dcf77.specs.Accepts.{AcceptsMinute}
 use Rattle.calendar.specs.Days.{DayAfter, OnWeekday}
-use Rattle.time_string.specs.Kind.{Reading, readingTime, kindOf, TellsKind, kindNumber, namedKind, readAs, AcceptsAs}
+use Rattle.time_string.specs.Row.{Reading, readingTime}
+use Rattle.time_string.specs.Kind.{kindOf, kindNumber, namedKind, readAs}
+use Rattle.time_string.specs.Accepted.{TellsKind, AcceptsAs}
 use Rattle.time_string.specs.declared.Kind.{Kind}
 use Rattle.time_string.proofs.KindLaws.{kind-told}
 use Rattle.c_numbers.specs.Numbers.{minuteNumbers, minuteCount}
@@ -66,7 +68,7 @@ read-by-kind kind = kind-laws kind .exactly
 
 -- what is accepted as a kind is told as that kind
 pub tell-accepted : (kind : Kind) (s : List ℕ) (r : Reading) → AcceptsAs kind s r → kindOf s ≡ accepted kind
-tell-accepted kind s r h = kind-told kind .told s (kind-laws kind .told s r h)
+tell-accepted kind s r h = kind-told kind .told s (kind-told kind .accepted-told s r h)
 
 pub read-standard : (s : List ℕ) → ReadsExactly (AcceptsStandard s) (readStandard s)
 read-standard = standards.faithful .reader .accepted-exactly

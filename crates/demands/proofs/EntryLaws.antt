@@ -10,8 +10,8 @@ use Rattle.clock_time.specs.Called.{andThen}
 use Rattle.clock_time.specs.Exit.{leaves}
 use Rattle.clock_time.proofs.ErrorLaws.{apart}
 use Rattle.calendar.specs.UnixTime.{isReading, instantOf, unixTime}
-use Rattle.time_string.specs.Kind.{kindRow, allKinds, isTold, firstTold, kindOf, kindNumber, kindNamed, namedKind}
-use Rattle.time_string.specs.Kind.{readAs}
+use Rattle.time_string.specs.Row.{kindRow, allKinds}
+use Rattle.time_string.specs.Kind.{isTold, firstTold, kindOf, kindNumber, kindNamed, namedKind, readAs}
 use Rattle.time_string.specs.declared.Kind.{Kind}
 use Rattle.time_string.specs.declared.Kind.the-variants.{Standard}
 use Rattle.dcf77.specs.Minute.{minuteChecks, minuteFields, readMinute}

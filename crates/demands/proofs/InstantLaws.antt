@@ -26,7 +26,7 @@ use Rattle.c_numbers.specs.Numbers.{timeNumbers, timeCount}
 use Rattle.c_fields.specs.Ranges.{Range, within, timeRanges, fits, timeFrom, numbered}
 use Rattle.c_fields.proofs.FitsLaws.{first-time-numbers}
 use Rattle.c_fields.proofs.Theorems as fields
-use Rattle.time_string.specs.Kind.{Reading, readingTime}
+use Rattle.time_string.specs.Row.{Reading, readingTime}
 use Rattle.c_readings.specs.Strings.{readingNumbers, unixTimeOf}
 use Rattle.demands.specs.Accepted.{AcceptsNumbered}
 use Rattle.demands.specs.Lines.{instantLinesOf}
@@ -59,7 +59,8 @@ unix-time-exactly t z = go (isReading t) refl
 -- ---- the instant of an outcome
 outcome-passes : (n : ℕ) (z : ℤ) → outcomeUnixTime n ≡ accepted z → isMinuteNumber n ≡ true
 unfolding outcomeUnixTime
-outcome-passes n z h = not-false _ (accepted-passes (given 23 (not (isMinuteNumber n)) ∷ []) (outcomeInstant n) z h .0 .0)
+outcome-passes n z h =
+    not-false _ (accepted-passes (given 23 (not (isMinuteNumber n)) ∷ []) (outcomeInstant n) z h .0 .0)
 
 pub outcome-exactly : (n : ℕ) → ReadsExactly (OutcomeInstant n) (outcomeUnixTime n)
 outcome-exactly n z = (

@@ -1,10 +1,8 @@
 -- What is proved of each kind of string: one proof a kind, by one law for any format.
 use Prim.Native.Nat.{ℕ}
-use native.Mathlib.Omega.{arith}
 use mathlib.Core.Path.{_≡_, refl, sym, ap, _∙_}
 use mathlib.Core.Bool.{Bool, true, false}
 use mathlib.Core.List.{List, []}
-use lib.Dec.{lit<}
 use lib.ListN.{length}
 use lib.IntN.{ℤ}
 use Rattle.clock_time.specs.Errors.{Answer, accepted, refused, Check, checked}
@@ -34,15 +32,17 @@ use Rattle.meinberg_gps.proofs.Theorems as gpss
 use Rattle.elv_dcf7000.specs.Elv.{elv, readElv, writeElv}
 use Rattle.elv_dcf7000.proofs.SaysLaws as elv-words
 use Rattle.elv_dcf7000.proofs.Theorems as elvs
-use Rattle.time_string.specs.Kind.{Reading, readingTime, Shape, withoutPosition, withPosition, Shaped, asReading}
-use Rattle.time_string.specs.Kind.{shapedAnswer, Mark, KindRow, kindRow, Marked, TellsRow, readRow, AcceptsRow}
+use Rattle.time_string.specs.Row.{Reading, readingTime, Shape, withoutPosition, withPosition, Shaped, asReading}
+use Rattle.time_string.specs.Row.{shapedAnswer, TellingByte, KindRow, kindRow}
+use Rattle.time_string.specs.Kind.{readRow}
+use Rattle.time_string.specs.Accepted.{AcceptsRow}
 use Rattle.time_string.specs.declared.Kind.{Kind}
 use Rattle.time_string.specs.declared.Kind.the-variants.{Standard, Pzf, Gps, Elv}
 use Rattle.c_numbers.specs.Numbers.{timeNumbers, gpsNumbers}
 use Rattle.c_fields.specs.Ranges.{numbered}
 use Rattle.c_fields.proofs.Theorems as fields
 use Rattle.c_writer.specs.Writers.{shapedOf, writeRow}
-use Rattle.c_readings.specs.Strings.{readingNumbers}
+use Rattle.c_readings.specs.Strings.{readingNumbers, shapedNumbers}
 use Rattle.demands.specs.Lines.{textOrder, shapeCount}
 use Rattle.demands.specs.Exactly.{ReadsExactly}
 use Rattle.demands.proofs.OrderLaws.{checked-map, positive}
@@ -56,9 +56,8 @@ pub record KindLaws (r : KindRow) : Type 0 where
   pub order : (s : List ℕ) → numbersOf (r .lines s) ≡ textOrder (r .own)
   -- no number of these is 0
   pub above-0 : positive (textOrder (r .own)) ≡ true
-  -- what is accepted, that its bytes tell this kind, and that it is valid
+  -- what is accepted, and that it is valid
   pub exactly : (s : List ℕ) → ReadsExactly (AcceptsRow r s) (readRow r s)
-  pub told : (s : List ℕ) (q : Reading) → AcceptsRow r s q → TellsRow r s
   pub valid : (s : List ℕ) (q : Reading) → AcceptsRow r s q → ValidReading (readingTime q)
   -- what is written of numbers
   pub settles : (z : List ℤ) (d : List ℕ)
@@ -70,19 +69,12 @@ abbrev clockIn : (shape : Shape) → Shaped shape → ClockTime
 clockIn withoutPosition t = t
 clockIn withPosition g = g .time
 
--- its numbers
-abbrev numbersIn : (shape : Shape) → Shaped shape → List ℤ
-numbersIn withoutPosition t = timeNumbers t
-numbersIn withPosition g = gpsNumbers g
-
 -- what a format gives, handed on as a reading with a clock time in it, and as numbers that stand for it
 record Handed (shape : Shape) : Type 0 where
-  wrap-accepted : (a : Shaped shape) → shapedAnswer shape (accepted a) ≡ accepted (asReading shape a)
-  wrap-refused : (k : ℕ) → shapedAnswer shape (refused k) ≡ refused k
   same-clock : (a : Shaped shape) → readingTime (asReading shape a) ≡ clockIn shape a
-  same-numbers : (a : Shaped shape) → readingNumbers (asReading shape a) ≡ numbersIn shape a
-  numbers-long : (a : Shaped shape) → length (numbersIn shape a) ≡ shapeCount shape
-  numbers-of : (z : List ℤ) (a : Shaped shape) → shapedOf shape z ≡ accepted a → numbersIn shape a ≡ z
+  same-numbers : (a : Shaped shape) → readingNumbers (asReading shape a) ≡ shapedNumbers shape a
+  numbers-long : (a : Shaped shape) → length (shapedNumbers shape a) ≡ shapeCount shape
+  numbers-of : (z : List ℤ) (a : Shaped shape) → shapedOf shape z ≡ accepted a → shapedNumbers shape a ≡ z
   refused-23 : (z : List ℤ) (k : ℕ) → shapedOf shape z ≡ refused k → k ≡ 23
 
 -- numbers that are no reading's are refused with 23
@@ -95,8 +87,6 @@ handed : (shape : Shape) → Handed shape
 unfolding gpsNumbers timeNumbers
 handed withoutPosition =
     record {
-      wrap-accepted = λ t. refl;
-      wrap-refused = λ k. refl;
       same-clock = λ t. refl;
       same-numbers = λ t. refl;
       numbers-long = λ t. refl;
@@ -105,8 +95,6 @@ handed withoutPosition =
     }
 handed withPosition =
     record {
-      wrap-accepted = λ g. refl;
-      wrap-refused = λ k. refl;
       same-clock = λ g. refl;
       same-numbers = λ g. refl;
       numbers-long = λ g. refl;
@@ -121,7 +109,7 @@ unfolding readText
 row-checks r s =
     let h = handed (r .shape) in
     let f = r .format .format in
-    checked-map (shapedAnswer (r .shape)) (asReading (r .shape)) (h .wrap-accepted) (h .wrap-refused) (textChecks f s)
+    checked-map (shapedAnswer (r .shape)) (asReading (r .shape)) (λ a. refl) (λ k. refl) (textChecks f s)
     (f .fields s)
 
 -- how many numbers it has
@@ -135,18 +123,18 @@ row-long r s =
 module _ (shape : Shape) where
   unwrapped : (answer : Answer (Shaped shape)) (q : Reading) → shapedAnswer shape answer ≡ accepted q
       → (a : Shaped shape) × (answer ≡ accepted a) × (q ≡ asReading shape a)
-  unwrapped (accepted a) q e = (a, refl, cc (handed shape .wrap-accepted a))
-  unwrapped (refused k) q e = apart (sym e ∙ handed shape .wrap-refused k)
+  unwrapped (accepted a) q e = (a, refl, cc)
+  unwrapped (refused k) q e = apart (sym e)
 
   handed-exactly : {Accepts : Shaped shape → Type 0} (answer : Answer (Shaped shape)) → ReadsExactly Accepts answer
       → ReadsExactly (λ q. (a : Shaped shape) × (Accepts a × (q ≡ asReading shape a))) (shapedAnswer shape answer)
   handed-exactly answer exact q = (
     λ e. let w = unwrapped answer q e in (w .0, (exact (w .0) .0 (w .1), w .2)),
-    λ p. rw (exact (p .0) .1 (p .1 .0), p .1 .1) (handed shape .wrap-accepted (p .0)),
+    λ p. rw (exact (p .0) .1 (p .1 .0), p .1 .1) refl,
   )
 
   handed-settled : {Accepts : List ℕ → Shaped shape → Type 0} {z : List ℤ} {d : List ℕ} {e : Written}
-      → Settled (λ s. (a : Shaped shape) × (Accepts s a × (z ≡ numbersIn shape a))) d e
+      → Settled (λ s. (a : Shaped shape) × (Accepts s a × (z ≡ shapedNumbers shape a))) d e
       → Settled (λ s.
       (q : Reading) × (((a : Shaped shape) × (Accepts s a × (q ≡ asReading shape a))) × (z ≡ readingNumbers q))) d e
   handed-settled =
@@ -163,14 +151,13 @@ module _ (shape : Shape) where
 -- ---- any format
 module _
     {shape : Shape} {written : WrittenFormat (Shaped shape)} {p : List Place} {faults : OwnFaults}
-    {Rules : List ℕ → Type 0} {Says Accepts : List ℕ → Shaped shape → Type 0} {number long : ℕ} {mark : Mark}
+    {Rules : List ℕ → Type 0} {Says Accepts : List ℕ → Shaped shape → Type 0} {number long : ℕ} {telling : TellingByte}
     {own : List ℕ} (words : InWords (written .format) p faults Rules Says)
     (faithful : Faithful Accepts (readText (written .format)) (writeText written))
-    (told : (s : List ℕ) (a : Shaped shape) → Accepts s a → (length s ≡ long) × Marked mark s)
     (valid-read : (s : List ℕ) (a : Shaped shape) → readText (written .format) s ≡ accepted a
     → isReading (clockIn shape a) ≡ true)
     (of-numbers : (s : List ℕ) (a : Shaped shape) → readText (written .format) s ≡ accepted a
-    → shapedOf shape (numbersIn shape a) ≡ accepted a)
+    → shapedOf shape (shapedNumbers shape a) ≡ accepted a)
     (order : (s : List ℕ) → numbersOf (textLines p faults Says (written .format .clock) s) ≡ textOrder own)
     (above-0 : positive (textOrder own) ≡ true)
   where
@@ -178,7 +165,7 @@ module _
         (record {
           number = number;
           long = long;
-          mark = mark;
+          telling = telling;
           shape = shape;
           format = written;
           Accepts = Accepts;
@@ -193,24 +180,23 @@ module _
           order = order;
           above-0 = above-0;
           exactly = λ s. handed-exactly shape (read s) (faithful .reader .accepted-exactly s);
-          told = λ s q r. told s (r .0) (r .1 .0);
           valid = λ s q r.
               let a = r .0 in
               let v = valid-read s a (faithful .reader .accepted-exactly s a .1 (r .1 .0)) in
               rw (r .1 .1, h .same-clock a) (valid-exactly (clockIn shape a) .0 v);
           settles = λ z d.
               handed-settled shape
-              (numbers-settled (writeText written) (shapedOf shape) (numbersIn shape) (settled faithful) (h .numbers-of)
-              (λ s a q. of-numbers s a (faithful .reader .accepted-exactly s a .1 q)) (h .refused-23) z d);
+              (numbers-settled (writeText written) (shapedOf shape) (shapedNumbers shape) (settled faithful)
+              (h .numbers-of) (λ s a q. of-numbers s a (faithful .reader .accepted-exactly s a .1 q)) (h .refused-23)
+              z d);
         }
 
 -- a format whose strings have no position, and no numbers of their own
 module _
     {written : WrittenFormat ClockTime} {p : List Place} {faults : OwnFaults} {Rules : List ℕ → Type 0}
-    {Says Accepts : List ℕ → ClockTime → Type 0} {number long : ℕ} {mark : Mark}
+    {Says Accepts : List ℕ → ClockTime → Type 0} {number long : ℕ} {telling : TellingByte}
     (words : InWords (written .format) p faults Rules Says)
     (faithful : Faithful Accepts (readText (written .format)) (writeText written))
-    (told : (s : List ℕ) (t : ClockTime) → Accepts s t → (length s ≡ long) × Marked mark s)
     (valid-read : (s : List ℕ) (t : ClockTime) → readText (written .format) s ≡ accepted t → isReading t ≡ true)
     (order : (s : List ℕ) → numbersOf (textLines p faults Says (written .format .clock) s) ≡ textOrder [])
   where
@@ -218,7 +204,7 @@ module _
         (record {
           number = number;
           long = long;
-          mark = mark;
+          telling = telling;
           shape = withoutPosition;
           format = written;
           Accepts = Accepts;
@@ -226,21 +212,15 @@ module _
           own = [];
         })
     clock-laws =
-        format-laws words faithful told valid-read
+        format-laws words faithful valid-read
         (λ s t h. fields.time-numbers t (valid-fits t (valid-read s t h))) order refl
 
 pub kind-laws : (kind : Kind) → KindLaws (kindRow kind)
 unfolding readStandard writeStandard standard readPzf writePzf pzf readGps writeGps writtenGps gps readElv writeElv elv
-kind-laws Standard =
-    clock-laws standard-words.in-words standards.faithful (λ s t h. (h .0 .long, h .0 .at 1 (lit< tt)))
-    standards.valid-read (λ s. refl)
-kind-laws Pzf =
-    clock-laws pzf-words.in-words pzfs.faithful
-    (λ s t h. (h .0 .long, λ d. let digit = h .0 .at 1 (lit< tt) in omega (arith, d, digit .1))) pzfs.valid-read
-    (λ s. refl)
+kind-laws Standard = clock-laws standard-words.in-words standards.faithful standards.valid-read (λ s. refl)
+kind-laws Pzf = clock-laws pzf-words.in-words pzfs.faithful pzfs.valid-read (λ s. refl)
 kind-laws Gps =
-    format-laws gps-words.in-words gpss.faithful (λ s g h. (h .0 .long, tt)) gpss.valid-read
+    format-laws gps-words.in-words gpss.faithful gpss.valid-read
     (λ s g h. fields.gps-numbers g (valid-fits (g .time) (gpss.valid-read s g h)) (position-fits s g h))
     (λ s. refl) refl
-kind-laws Elv =
-    clock-laws elv-words.in-words elvs.faithful (λ s t h. (h .0 .long, tt)) elvs.valid-read (λ s. refl)
+kind-laws Elv = clock-laws elv-words.in-words elvs.faithful elvs.valid-read (λ s. refl)

@@ -15,8 +15,9 @@ use Rattle.calendar.specs.Rules.{ValidReading}
 use Rattle.dcf77.specs.Minute.{writeMinute}
 use Rattle.dcf77.specs.declared.MinuteTime.{MinuteTime}
 use Rattle.dcf77.proofs.Theorems as minutes
-use Rattle.time_string.specs.Kind.{Reading, time, timeAndPosition, readingTime, kindRow, allKinds, kindNumber}
-use Rattle.time_string.specs.Kind.{namedKind, readAs, AcceptsAs}
+use Rattle.time_string.specs.Row.{Reading, time, timeAndPosition, readingTime, kindRow, allKinds}
+use Rattle.time_string.specs.Kind.{kindNumber, namedKind, readAs}
+use Rattle.time_string.specs.Accepted.{AcceptsAs}
 use Rattle.time_string.specs.declared.Kind.{Kind}
 use Rattle.c_numbers.specs.Numbers.{timeNumbers, gpsNumbers, minuteNumbers, minuteCount}
 use Rattle.c_fields.specs.Ranges.{minuteOf}
@@ -67,7 +68,8 @@ module _ (n : ℕ) (z : List ℤ) (d : List ℕ) where
 
   pub from-decided : Decided (writeLines n z d) d (writeFrom n z d)
   from-decided =
-      decided-after _ (leb (length allKinds) n) 0 (unknown-exactly n) from-unknown (λ e. writer-decided (known-settled e))
+      decided-after _ (leb (length allKinds) n) 0 (unknown-exactly n) from-unknown
+      (λ e. writer-decided (known-settled e))
 
   unknown-none : leb (length allKinds) n ≡ true → (s : List ℕ) → AcceptsNumbers n s z → ⊥
   unknown-none e s h = true≢false (sym e ∙ named-number n (h .1 .0 .0) (h .1 .0 .1 .0) .0)
@@ -86,7 +88,8 @@ module _ (n : ℕ) (z : List ℤ) (d : List ℕ) where
   pub call-from-exactly : (old : ℕ) → CallWritesExactly (λ s. AcceptsNumbers n s z) d (calledBoth old (writeFrom n z d))
   call-from-exactly old = go (leb (length allKinds) n) refl
     where
-      go : (b : Bool) → leb (length allKinds) n ≡ b → CallWritesExactly (λ s. AcceptsNumbers n s z) d (calledBoth old (writeFrom n z d))
+      go : (b : Bool) → leb (length allKinds) n ≡ b
+          → CallWritesExactly (λ s. AcceptsNumbers n s z) d (calledBoth old (writeFrom n z d))
       go false e = call-writes-exactly (known-settled e) old
       go true e =
           rw (from-unknown e) (record {

@@ -15,8 +15,9 @@ use Rattle.clock_time.specs.Errors.{Answer, accepted, refused, given}
 use Rattle.clock_time.specs.Called.{Called, called, calledAnswer, calledMemory, andThen}
 use Rattle.clock_time.proofs.ErrorLaws.{apart, accepted-passes}
 use Rattle.clock_time.proofs.Tests.{both}
-use Rattle.time_string.specs.Kind.{Mark, anyByte, letterD, otherByte, isMarked, Marked, kindRow, allKinds, isTold}
-use Rattle.time_string.specs.Kind.{firstTold, kindOf, TellsKind, kindNumber, namedKind, kindNamed, readAs}
+use Rattle.time_string.specs.Row.{TellingByte, anyByte, letterD, otherByte, kindRow, allKinds}
+use Rattle.time_string.specs.Kind.{isTelling, isTold, firstTold, kindOf, kindNumber, namedKind, kindNamed, readAs}
+use Rattle.time_string.specs.Accepted.{Telling, TellsKind}
 use Rattle.time_string.proofs.KindLaws.{kind-told, kind-unknown}
 use Rattle.time_string.specs.declared.Kind.{Kind}
 use Rattle.time_string.specs.declared.Kind.the-variants.{Standard}
@@ -28,10 +29,10 @@ use Rattle.demands.specs.Exactly.{ReadsExactly, CallAnswersExactly, Call
 use Rattle.demands.proofs.KindLaws.{kind-laws}
 
 -- ---- the kind of a string
-marked : (m : Mark) (s : List ℕ) → isMarked m s ≡ true → Marked m s
-marked anyByte s h = tt
-marked letterD s h = eqb-true _ _ h
-marked otherByte s h = eqb-false _ _ (not-true _ h)
+telling : (b : TellingByte) (s : List ℕ) → isTelling b s ≡ true → Telling b s
+telling anyByte s h = tt
+telling letterD s h = eqb-true _ _ h
+telling otherByte s h = eqb-false _ _ (not-true _ h)
 
 tells-first : (s : List ℕ) (kind : Kind) (ks : List Kind) → firstTold s ks ≡ accepted kind → TellsKind s kind
 tells-first s kind [] h = apart (sym h)
@@ -40,9 +41,9 @@ tells-first s kind (k ∷ ks) h = go (isTold (kindRow k) s) refl h (tells-first 
     go : (t : Bool) → isTold (kindRow k) s ≡ t → cond t (accepted k) (firstTold s ks) ≡ accepted kind
         → (firstTold s ks ≡ accepted kind → TellsKind s kind) → TellsKind s kind
     go true e h later =
-        let w = both (eqb (length s) (kindRow k .long)) (isMarked (kindRow k .mark) s) e in
+        let w = both (eqb (length s) (kindRow k .long)) (isTelling (kindRow k .telling) s) e in
         let same : k ≡ kind = cc in
-        subst (TellsKind s) same (eqb-true _ _ (w .0), marked (kindRow k .mark) s (w .1))
+        subst (TellsKind s) same (eqb-true _ _ (w .0), telling (kindRow k .telling) s (w .1))
     go false e h later = later h
 
 pub tells-exactly : (s : List ℕ) → ReadsExactly (TellsKind s) (kindOf s)

@@ -5,12 +5,14 @@ use mathlib.Core.List.{List}
 use lib.IntN.{ℤ}
 use Rattle.dcf77.specs.Accepts.{AcceptsMinute}
 use Rattle.dcf77.specs.declared.MinuteTime.{MinuteTime}
-use Rattle.time_string.specs.Kind.{kindNumber, Reading, AcceptsAs}
+use Rattle.time_string.specs.Row.{Reading}
+use Rattle.time_string.specs.Kind.{kindNumber}
+use Rattle.time_string.specs.Accepted.{AcceptsAs}
 use Rattle.time_string.specs.declared.Kind.{Kind}
 use Rattle.c_numbers.specs.Numbers.{minuteNumbers}
 use Rattle.c_readings.specs.Strings.{readingNumbers}
 
--- the kind is named by its number
+-- a string is accepted as a reading, as one of the kind that the number n names
 abbrev pub AcceptsNumbered : ℕ → List ℕ → Reading → Type 0
 AcceptsNumbered n s r = (kind : Kind) × ((n ≡ kindNumber kind) × AcceptsAs kind s r)
 

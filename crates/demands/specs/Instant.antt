@@ -29,8 +29,8 @@ InstantOf t z = ValidReading t × Instant t z
 abbrev pub InstantOfNumbers : List ℤ → ℤ → Type 0
 InstantOfNumbers numbers z = (t : ClockTime) × ((take timeCount numbers ≡ timeNumbers t) × InstantOf t z)
 
--- "100 + 32 L + 16 (run of 60) + 8 (offset 120) + [..]" (01, Tape and sheet): n is the number of an accepted minute whose
--- instant is z
+-- "100 + 32 L + 16 (run of 60) + 8 (offset 120) + [..]" (01, Tape and sheet): n is the number of an accepted minute
+-- whose instant is z
 abbrev pub OutcomeInstant : ℕ → ℤ → Type 0
 OutcomeInstant n z =
     (m : List ℕ) × ((a : MinuteTime) × (AcceptsMinute m a × MinuteNumber a n × InstantOf (a .time) z))

@@ -1,5 +1,5 @@
 -- The lines of document 01's table of refusals that each entry goes by, in words and in their order.
-use Prim.Native.Nat.{ℕ, suc, _≤_, _<_}
+use Prim.Native.Nat.{ℕ, _≤_, _<_}
 use mathlib.Core.Path.{_≡_}
 use mathlib.Core.Logic.{_⊎_}
 use mathlib.Core.List.{List, [], _∷_, _++_}
@@ -11,13 +11,15 @@ use Rattle.gregorian.specs.Rules.{GregorianDate}
 use Rattle.calendar.specs.Rules.{ValidReading}
 use Rattle.dcf77.specs.Lines.{minuteLines}
 use Rattle.dcf77_outcome.specs.RunNumber.{HasMinute}
-use Rattle.time_string.specs.Kind.{Shape, withoutPosition, withPosition, kindRow, kindNumber, namedKind}
+use Rattle.time_string.specs.Row.{Shape, withoutPosition, withPosition, kindRow}
+use Rattle.time_string.specs.Kind.{kindNumber, namedKind}
 use Rattle.time_string.specs.declared.Kind.{Kind}
 use Rattle.c_numbers.specs.Numbers.{timeNumbers, timeCount, gpsCount, minuteCount}
 use Rattle.demands.specs.Accepted.{AcceptsNumbers}
 
 -- ---- the orders
--- "Order for text: 1, 2, 3, 4, 8, 9, 5, 6, 7." (01, Refusal numbers): 8 and 9 are the kind's own numbers
+-- "Order for text: 1, 2, 3, 4, 8, 9, 5, 6, 7." (01, Refusal numbers): `own` stands for 8 and 9, both for GPS, none for
+-- the other kinds
 abbrev pub textOrder : List ℕ → List ℕ
 textOrder own = 1 ∷ 2 ∷ 3 ∷ 4 ∷ own ++ (5 ∷ 6 ∷ 7 ∷ [])
 
@@ -52,12 +54,12 @@ writerLines Reads buffer =
 
 -- ---- recordings
 -- 20: "tape over 100,000"; 21: "place at or past the tape's end" (01, Refusal numbers), in the order of a correction,
--- since 01 gives none for it
+-- since 01 gives no order for the number at one place
 abbrev pub outcomeLines : List ℕ → ℕ → List Line
 outcomeLines marks place = line 20 (100000 < length marks) ∷ line 21 (length marks ≤ place) ∷ []
 
--- 23: "reading that no accepted string or minute of this format gives" (01, Refusal numbers): no accepted minute has the
--- number n
+-- 23: "reading that no accepted string or minute of this format gives" (01, Refusal numbers): no accepted minute has
+-- the number n
 abbrev pub outcomeTimeLines : ℕ → List Line
 outcomeTimeLines n = line 23 (HasMinute n → ⊥) ∷ []
 
@@ -99,11 +101,13 @@ shapeCount withPosition = gpsCount
 abbrev pub numberCount : Kind → ℕ
 numberCount kind = shapeCount (kindRow kind .shape)
 
--- 20: "lent memory: [..] a buffer too short to write to" (01, Refusal numbers): so many numbers are to be put
+-- 20: "lent memory: [..] a buffer too short to write to" (01, Refusal numbers): fewer numbers are lent than are
+-- to be put
 abbrev pub noRoomFor : ℕ → List ℤ → Line
 noRoomFor count fields = line 20 (length fields < count)
 
--- the kind, the kind's reader, the room: 01 gives no order for these, so 20 comes last as in a writer
+-- first the kind's number, then the lines of its reader, then the room: 01 gives no order for these, so 20 comes last,
+-- as in a writer
 abbrev pub readLines : ℕ → List ℕ → List ℤ → List Line
 readLines n s fields = unknownKind n ∷ linesAs (namedKind n) s ++ (noRoomFor (numberCount (namedKind n)) fields ∷ [])
 

@@ -1,19 +1,18 @@
--- The rule for every time string: which strings are read, in which order errors are given.
-use Prim.Native.Nat.{ℕ, _+_}
+-- The rule for every time string: which strings are read, and in which order errors are given.
+use Prim.Native.Nat.{ℕ}
 use Prim.Native.Char.{Char, code}
 use mathlib.Core.Bool.{Bool, false, cond, not, _&&_, _||_}
 use mathlib.Core.List.{List, [], _∷_, _++_}
 use lib.Dec.{leb, eqb}
 use lib.ListN.{length}
-use lib.IntN.{ℤ}
 use Rattle.clock_time.specs.Errors.{Answer, Check, given, checked}
 use Rattle.clock_time.specs.Same.{sameTime}
 use Rattle.clock_time.specs.Writing.{Written, writeBack}
 use Rattle.clock_time.specs.declared.ClockTime.{ClockTime}
-use Rattle.gregorian.specs.Date.{fullYear, supportedDate, firstYear, lastYear}
+use Rattle.gregorian.specs.Date.{supportedDate, firstYear, lastYear}
 use Rattle.calendar.specs.TimeOfDay.{timeExists}
 use Rattle.decimal.specs.Decimal.{digits}
-use Rattle.layout.specs.Layout.{found, number, has}
+use Rattle.layout.specs.Layout.{found}
 
 -- A format: its layout, a fault of its flags given with 4, its own checks before 5, the dates that it can give, a fault
 -- given with 6, what its fields say, and the clock time in that.
@@ -36,35 +35,6 @@ pub record WrittenFormat (A : Type 0) : Type 0 where
 -- "year 1970 to 2069, a date" (01, The reading)
 unfoldable pub supportedDay : ClockTime → Bool
 supportedDay t = supportedDate firstYear lastYear (t .year) (t .month) (t .day)
-
--- the clock time of a Meinberg string: its date starts at the place d, its weekday stands at w, its time starts at h; with
--- this offset and the six flags in the order of "unsynchronised, unverified, summer time, change coming, leap second
--- coming, alternate antenna" (01, The reading)
-abbrev pub clockAt : List ℕ → ℕ → ℕ → ℕ → ℤ → Bool → Bool → Bool → Bool → Bool → Bool → ClockTime
-clockAt s d w h offset unsynchronised unverified summer change leap antenna =
-    record {
-      year = fullYear firstYear (number 2 (d + 6) s);
-      month = number 2 (d + 3) s;
-      day = number 2 d s;
-      weekday = number 1 w s;
-      hour = number 2 h s;
-      minute = number 2 (h + 3) s;
-      second = number 2 (h + 6) s;
-      «utc_offset» = offset;
-      unsynchronised = unsynchronised;
-      unverified = unverified;
-      «summer_time» = summer;
-      «dst_change_announced» = change;
-      «leap_second_announced» = leap;
-      «alternate_antenna» = antenna;
-    }
-
--- the same if it has the six flags from the place u on: "u `#`, v `*`, x `S`, y `!`, z `A`, a `R`, or blank" (01,
--- Meinberg and ELV strings)
-abbrev pub clockWithFlags : List ℕ → ℕ → ℕ → ℕ → ℕ → ℤ → ClockTime
-clockWithFlags s d w h u offset =
-    clockAt s d w h offset (has "#" u s) (has "*" (u + 1) s) (has "S" (u + 2) s) (has "!" (u + 3) s)
-    (has "A" (u + 4) s) (has "R" (u + 5) s)
 
 -- a format of clock times alone, which has no faults of its own but in its flags
 abbrev pub clockFormat : List ℕ → (List ℕ → Bool) → (List ℕ → ClockTime) → Format ClockTime

@@ -7,7 +7,8 @@ use Rattle.clock_time.specs.Errors.{Answer, accepted, refused, errorNumber}
 use Rattle.clock_time.specs.declared.ClockTime.{ClockTime}
 use Rattle.clock_time.specs.Lists.{ascii}
 use Rattle.time_string.specs.declared.Kind.{Kind}
-use Rattle.time_string.specs.Kind.{Reading, readingTime, kindOf, readAs}
+use Rattle.time_string.specs.Row.{Reading, readingTime}
+use Rattle.time_string.specs.Kind.{kindOf, readAs}
 use Rattle.framing.specs.declared.Event.{Event}
 use Rattle.framing.specs.declared.Event.the-variants.{Nothing, Complete, Dropped}
 use Rattle.listing_lines.specs.Line.{timeLine}

@@ -12,9 +12,9 @@ use Rattle.clock_time.specs.Writing.{Written}
 use Rattle.clock_time.specs.declared.ClockTime.{ClockTime}
 use Rattle.clock_time.specs.declared.Position.{Position}
 use Rattle.clock_time.specs.Lists.{ascii, slice}
-use Rattle.decimal.specs.Decimal.{digits}
 use Rattle.layout.specs.Layout.{digit, free, flag, places, number, has}
-use Rattle.layout.specs.Text.{Format, WrittenFormat, supportedDay, clockWithFlags, clockChecks, readText, writeText, letter}
+use Rattle.layout.specs.Meinberg.{clockWithFlags}
+use Rattle.layout.specs.Text.{Format, WrittenFormat, supportedDay, clockChecks, readText, writeText, letter}
 use Rattle.signed.specs.Signed.{signed, signHolds}
 use Rattle.signed.specs.Offset.{offsetText}
 use Rattle.meinberg_gps_position.specs.Position.{positionFault, positionOf, positionText}
@@ -25,7 +25,7 @@ use Rattle.meinberg_gps.specs.declared.GpsAnswer.the-variants.{Read, Ref
 
 -- "As PZF up to place 22; blank at 23; sign at 24; offset digits at 25, 26, 28, 29 with `:` at 27; `;` 30; blank 31;
 -- flags uvxyzab at 32..38; `;` 39; blank 40; latitude 41..48; blank 49; longitude 50..58; blank 59; height 60..63; `m`
--- 64; ETX 65." PZF begins "`STX dd.mm.yy; w; hh:mm:ss; [..]". (01, Meinberg and ELV strings)
+-- 64; ETX 65." PZF begins "`STX dd.mm.yy; w; hh:mm:ss; [..]`". (01, Meinberg and ELV strings)
 unfoldable pub gpsLayout : List ℕ
 gpsLayout =
     ascii "\u{2}" ++ places 2 digit ++ ascii "." ++ places 2 digit ++ ascii "." ++ places 2 digit
@@ -56,8 +56,8 @@ offsetOf s = signed (has "-" 24 s) (offsetMagnitude s)
 unfoldable pub leapMismatch : List ℕ → Bool
 leapMismatch s = not (Bool·beq (has "L" 38 s) (eqb (number 2 20 s) 60))
 
--- "u `#`, v `*`, x `S`, y `!`, z `A`, a `R`, or blank"; "The offset rules; x is only the summer flag." (01, Meinberg
--- and ELV strings)
+-- "As PZF up to place 22"; "flags uvxyzab at 32..38"; "The offset rules; x is only the summer flag." (01, Meinberg and
+-- ELV strings): the date starts at place 1, the weekday stands at 11, the time starts at 14, u at 32
 unfoldable pub clockOf : List ℕ → ClockTime
 clockOf s = clockWithFlags s 1 11 14 32 (offsetOf s)
 

@@ -11,7 +11,8 @@ use Rattle.clock_time.specs.declared.ClockTime.{ClockTime}
 use Rattle.clock_time.specs.Lists.{ascii}
 use Rattle.decimal.specs.Decimal.{digits}
 use Rattle.layout.specs.Layout.{digit, flag, places, has}
-use Rattle.layout.specs.Text.{Format, clockWithFlags, clockFormat, writtenClock, readText, writeText, letter}
+use Rattle.layout.specs.Meinberg.{clockWithFlags}
+use Rattle.layout.specs.Text.{Format, clockFormat, writtenClock, readText, writeText, letter}
 
 -- "`STX dd.mm.yy; w; hh:mm:ss; tuvxyza ETX`. Flags at 24..30: t `U`, u `#`, v `*`, x `S`, y `!`, z `A`, a `R`, or
 -- blank." (01, Meinberg and ELV strings)
@@ -28,7 +29,7 @@ pzfOffset utc summer = cond utc (pos 0) (cetOffset summer)
 
 -- "Flags at 24..30: t `U`, u `#`, v `*`, x `S`, y `!`, z `A`, a `R`, or blank. [..] x is the summer flag in each case."
 -- (01, Meinberg and ELV strings): in turn UTC, unsynchronised, unverified, summer time, change coming, leap second
--- coming and alternate antenna
+-- coming and alternate antenna; the date starts at place 1, the weekday stands at 11, the time starts at 14, u at 25
 unfoldable pub pzfFields : List ℕ → ClockTime
 pzfFields s = clockWithFlags s 1 11 14 25 (pzfOffset (has "U" 24 s) (has "S" 27 s))
 
@@ -52,7 +53,7 @@ pzfText t =
 unfoldable pub pzfRepresentable : ClockTime → Bool
 pzfRepresentable t = eqℤ (pzfOffset (eqℤ (t .«utc_offset») (pos 0)) (t .«summer_time»)) (t .«utc_offset»)
 
--- it has no faults of its own beyond its layout's and its clock time's
+-- the format: it has no faults beyond its layout's and its clock time's
 unfoldable pub pzf : Format ClockTime
 pzf = clockFormat pzfLayout (λ s. false) pzfFields
 

@@ -14,7 +14,8 @@ use Rattle.clock_time.specs.declared.ClockTime.{ClockTime}
 use Rattle.clock_time.specs.Lists.{ascii}
 use Rattle.decimal.specs.Decimal.{digits}
 use Rattle.layout.specs.Layout.{digit, flag, either, places, has}
-use Rattle.layout.specs.Text.{Format, clockAt, clockFormat, writtenClock, readText, writeText, letter}
+use Rattle.layout.specs.Meinberg.{clockAt}
+use Rattle.layout.specs.Text.{Format, clockFormat, writtenClock, readText, writeText, letter}
 
 -- "`STX D:dd.mm.yy;T:w;U:hh.mm.ss;uvxy ETX` (the blanks beside STX and ETX are only for print). [..] The time has dots:
 -- 002 shows colons in the layout, dots in its pattern. Dots hold." (01, Meinberg and ELV strings)
@@ -30,7 +31,8 @@ unfoldable pub standardZone : ℕ → ℤ
 standardZone x = cond (eqb x (code "U")) (pos 0) (cetOffset (eqb x (code "S")))
 
 -- "Flags at 27..30. u is `#` or blank (unsynchronised); v `*` or blank (unverified); x [..]; y `!` (change coming), `A`
--- (leap second coming) or blank. [..] 002 counts Sunday as 0; 1..7 holds." (01, Meinberg and ELV strings)
+-- (leap second coming) or blank. [..] 002 counts Sunday as 0; 1..7 holds." (01, Meinberg and ELV strings); the date
+-- starts at place 3, the weekday stands at 14, the time starts at 18
 unfoldable pub standardFields : List ℕ → ClockTime
 standardFields s =
     clockAt s 3 14 18 (standardZone (getD s 29 0)) (has "#" 27 s) (has "*" 28 s) (has "S" 29 s) (has "!" 30 s)
@@ -66,7 +68,7 @@ standardRepresentable t =
     && not (t .«dst_change_announced» && t .«leap_second_announced»)
     && not (t .«alternate_antenna»)
 
--- it has no faults of its own beyond its layout's and its clock time's
+-- the format: it has no faults beyond its layout's and its clock time's
 unfoldable pub standard : Format ClockTime
 standard = clockFormat standardLayout (λ s. false) standardFields
 

@@ -2,13 +2,17 @@
 use Prim.Native.Nat.{ℕ, _≤_}
 use Prim.Native.Char.{code}
 use native.Mathlib.Decide.{ℕ-discrete}
+use native.Mathlib.Omega.{arith}
 use mathlib.Core.Path.{_≡_, refl}
 use mathlib.Core.Logic.{by-cases}
 use mathlib.Core.List.{List, [], _∷_}
+use lib.Dec.{lit<}
 use lib.ListN.{length, getD}
 use borrow.Author.Tests.{ne-eqb, le-leb}
 use Rattle.clock_time.specs.Errors.{accepted, refused}
-use Rattle.time_string.specs.Kind.{kindRow, allKinds, firstTold, kindOf, TellsKind, kindNumber, kindNamed}
+use Rattle.time_string.specs.Row.{Reading, kindRow, allKinds}
+use Rattle.time_string.specs.Kind.{firstTold, kindOf, kindNumber, kindNamed}
+use Rattle.time_string.specs.Accepted.{TellsKind, AcceptsAs}
 use Rattle.time_string.specs.declared.Kind.{Kind}
 use Rattle.time_string.specs.declared.Kind.the-variants.{Standard, Pzf, Gps, Elv}
 
@@ -16,6 +20,8 @@ use Rattle.time_string.specs.declared.Kind.the-variants.{Standard, Pzf, 
 pub record KindTold (kind : Kind) : Type 0 where
   -- its number names it
   pub named : kindNamed (kindNumber kind) ≡ accepted kind
+  -- what it accepts is told as it
+  pub accepted-told : (s : List ℕ) (q : Reading) → AcceptsAs kind s q → TellsKind s kind
   -- the bytes that tell it tell no other
   pub told : (s : List ℕ) → TellsKind s kind → kindOf s ≡ accepted kind
   -- a string of its length has a kind
@@ -30,10 +36,36 @@ by-letter s h =
 
 pub kind-told : (kind : Kind) → KindTold kind
 unfolding kindNamed kindOf
-kind-told Standard = record { named = refl; told = λ s h. rw (h .0, h .1) refl; some = by-letter }
-kind-told Pzf = record { named = refl; told = λ s h. rw (h .0, ne-eqb _ _ (h .1)) refl; some = by-letter }
-kind-told Gps = record { named = refl; told = λ s h. rw (h .0) refl; some = λ s h. (Gps, rw h refl) }
-kind-told Elv = record { named = refl; told = λ s h. rw (h .0) refl; some = λ s h. (Elv, rw h refl) }
+kind-told Standard =
+    record {
+      named = refl;
+      accepted-told = λ s q h. let drawn = h .1 .0 .0 in (drawn .long, drawn .at 1 (lit< tt));
+      told = λ s h. rw (h .0, h .1) refl;
+      some = by-letter;
+    }
+kind-told Pzf =
+    record {
+      named = refl;
+      accepted-told = λ s q h.
+          let drawn = h .1 .0 .0 in
+          (drawn .long, λ d. let digit = drawn .at 1 (lit< tt) in omega (arith, d, digit .1));
+      told = λ s h. rw (h .0, ne-eqb _ _ (h .1)) refl;
+      some = by-letter;
+    }
+kind-told Gps =
+    record {
+      named = refl;
+      accepted-told = λ s q h. (h .1 .0 .0 .long, tt);
+      told = λ s h. rw (h .0) refl;
+      some = λ s h. (Gps, rw h refl);
+    }
+kind-told Elv =
+    record {
+      named = refl;
+      accepted-told = λ s q h. (h .1 .0 .0 .long, tt);
+      told = λ s h. rw (h .0) refl;
+      some = λ s h. (Elv, rw h refl);
+    }
 
 -- ---- for all kinds
 none-told : (s : List ℕ) → ((kind : Kind) → length s ≡ kindRow kind .long → ⊥) → (ks : List Kind)

@@ -6,7 +6,8 @@ use meinberg_gps::GpsAnswer;
 use meinberg_gps::GpsTime;
 ghost use mathlib.Core.Path.{_≡_};
 ghost use Rattle.clock_time.specs.Reading.{readAnswer};
-ghost use Rattle.time_string.specs.Kind.{kindOf, kindAnswer, timeOnly, located, readAs, timeAnswer};
+ghost use Rattle.time_string.specs.Row.{Shape, shapedAnswer};
+ghost use Rattle.time_string.specs.Kind.{kindOf, kindAnswer, readAs, timeAnswer};
 ghost use Rattle.meinberg_gps.specs.Gps.{gpsAnswer};
 
 // The kinds of time strings.
@@ -50,8 +51,9 @@ pub fn kind_of(s: &[u8]) -> KindAnswer
     KindAnswer::Refused(Error::Length)
 }
 
+// The answer of a reader whose strings have no position.
 fn without_position(a: ReadAnswer) -> TimeAnswer
-    ensures { λ r. ⌜ timeAnswer r ≡ timeOnly (readAnswer a) ⌝ }
+    ensures { λ r. ⌜ timeAnswer r ≡ shapedAnswer Shape.withoutPosition (readAnswer a) ⌝ }
 {
     match a {
         ReadAnswer::Read(t) => TimeAnswer::Read(t),
@@ -59,8 +61,9 @@ fn without_position(a: ReadAnswer) -> TimeAnswer
     }
 }
 
+// The answer of a reader whose strings have one.
 fn with_position(a: GpsAnswer) -> TimeAnswer
-    ensures { λ r. ⌜ timeAnswer r ≡ located (gpsAnswer a) ⌝ }
+    ensures { λ r. ⌜ timeAnswer r ≡ shapedAnswer Shape.withPosition (gpsAnswer a) ⌝ }
 {
     match a {
         GpsAnswer::Read(g) => TimeAnswer::ReadWithPosition(g),

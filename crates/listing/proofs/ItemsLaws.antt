@@ -52,6 +52,8 @@ number-below errors.LentMemory = lit< tt
 number-below errors.Place = lit< tt
 number-below errors.NewMark = lit< tt
 number-below errors.Unrepresentable = lit< tt
+number-below errors.Checksum = lit< tt
+number-below errors.ValidityFlag = lit< tt
 
 -- ---- the line of a clock time
 pub shows-line : (t : ClockTime) (text : List ℕ) → text ≡ timeLine t

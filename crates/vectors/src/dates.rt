@@ -34,7 +34,9 @@ fn error_at(i: u8) -> Error {
         19 => Error::LentMemory,
         20 => Error::Place,
         21 => Error::NewMark,
-        _ => Error::Unrepresentable,
+        22 => Error::Unrepresentable,
+        23 => Error::Checksum,
+        _ => Error::ValidityFlag,
     }
 }
 

@@ -17,8 +17,8 @@ use Rattle.clock_time.proofs.Tests.{both}
 use Rattle.clock_time.specs.Lists.{slice}
 use Rattle.decimal.specs.Decimal.{isDigit, firstNonDigit}
 use Rattle.decimal.proofs.DecimalLaws.{value-below}
-use Rattle.layout.specs.Layout.{digit, flagOf, allowed, errorAt, offence, fitsFrom, first, found, FitsLayout}
-use Rattle.layout.specs.Layout.{number, patternPlace, patterned}
+use Rattle.layout.specs.Layout.{digit, printable, flagOf, allowed, errorAt, offence, fitsFrom, first}
+use Rattle.layout.specs.Layout.{found, FitsLayout, number, patternPlace, patterned}
 
 -- ---- one byte
 pub fixed-test : (p b : ℕ) → p < 256 → allowed p b ≡ eqb b p
@@ -33,6 +33,7 @@ flag-test a b h =
       le-ltb (512 + a) 256 (omega arith),
       ne-eqb (512 + a) 256 (λ z. omega arith),
       ne-eqb (512 + a) 257 (λ z. omega arith),
+      ne-eqb (512 + a) 258 (λ z. omega arith),
       lt-ltb (512 + a) 65536 (omega arith),
       e,
     )
@@ -66,7 +67,7 @@ place-patterned (p ∷ l) (suc i) h = place-patterned l i (omega arith)
 -- ---- a string that fits
 error-three : (p : ℕ) → (errorAt p ≡ 2) ⊎ ((errorAt p ≡ 3) ⊎ (errorAt p ≡ 4))
 unfolding errorAt
-error-three p = go (ltb p 256) (eqb p digit)
+error-three p = go (ltb p 256 || eqb p printable) (eqb p digit)
   where
     go : (a b : Bool) → (cond {A = ℕ} a 2 (cond b 3 4) ≡ 2) ⊎ ((cond {A = ℕ} a 2 (cond b 3 4) ≡ 3) ⊎ (cond {A = ℕ} a 2
         (cond b 3 4) ≡ 4))

@@ -4,21 +4,25 @@ use Prim.Native.Char.{Char, code}
 use mathlib.Core.Path.{_≡_}
 use mathlib.Core.Bool.{Bool, true, cond, _&&_, _||_}
 use mathlib.Core.List.{List, [], _∷_}
-use lib.Dec.{ltb, eqb}
+use lib.Dec.{leb, ltb, eqb}
 use lib.ListN.{length, getD}
 use Rattle.clock_time.specs.Lists.{slice}
 use Rattle.decimal.specs.Decimal.{isDigit, value}
 
 -- "Places count from 0." (01, Meinberg and ELV strings): a layout has a number for each of them in turn. Below 256 it
--- is that byte and no other; `digit`, a decimal digit; `free`, any byte, since other rules speak of it; `flag a`, the
--- letter a or a blank; `either a b`, the letter a, the letter b or a blank. No layout has another number; `allowed`
--- would take one above 257 as a flag.
+-- is that byte and no other; `digit`, a decimal digit; `free`, any byte, since other rules speak of it; `printable`, a
+-- byte from 32 to 126; `flag a`, the letter a or a blank; `either a b`, the letter a, the letter b or a blank. No layout
+-- has another number; `allowed` would take one above 258 as a flag.
 abbrev pub digit : ℕ
 digit = 256
 
 -- the place of any byte
 abbrev pub free : ℕ
 free = 257
+
+-- "any bytes from 32 to 126 (others give 2)" (02, T-01)
+abbrev pub printable : ℕ
+printable = 258
 
 -- the place of a flag, by the number of its letter
 abbrev pub flagOf : ℕ → ℕ
@@ -43,8 +47,9 @@ samplePlace p = cond (eqb p (code "0")) digit (cond (eqb p (code "?")) free p)
 
 -- "t `U`, u `#`, v `*`, x `S`, y `!`, z `A`, a `R`, or blank"; "b must be `L` exactly if the second is 60"; of the
 -- standard string "x `U` (offset 0), `S` (offset 120, summer time) or blank (offset 60); y `!` (change coming), `A` (leap
--- second coming) or blank" (01, Meinberg and ELV strings): a byte of a pattern as a place. These letters stand for the
--- flags, in every pattern the same, so that the standard string's x and y are X and Y; another byte is that of a sample
+-- second coming) or blank" (01, Meinberg and ELV strings); "rrrrr is any bytes from 32 to 126" (02, T-01): a byte of a
+-- pattern as a place. These letters stand for the flags and for a printable byte, in every pattern the same, so that the
+-- standard string's x and y are X and Y; another byte is that of a sample
 unfoldable pub patternPlace : ℕ → ℕ
 patternPlace p =
     cond (eqb p (code "t")) (flag "U")
@@ -56,7 +61,8 @@ patternPlace p =
     (cond (eqb p (code "a")) (flag "R")
     (cond (eqb p (code "b")) (flag "L")
     (cond (eqb p (code "X")) (either "U" "S")
-    (cond (eqb p (code "Y")) (either "!" "A") (samplePlace p))))))))))
+    (cond (eqb p (code "Y")) (either "!" "A")
+    (cond (eqb p (code "r")) printable (samplePlace p)))))))))))
 
 -- the layout that a pattern stands for
 abbrev pub patterned : List ℕ → List ℕ
@@ -69,12 +75,14 @@ allowed p b =
     cond (ltb p 256) (eqb b p)
     (cond (eqb p digit) (isDigit b)
     (cond (eqb p free) true
-    (cond (ltb p 65536) (eqb b 32 || eqb b (p % 256)) (eqb b 32 || eqb b (p / 256 % 256) || eqb b (p % 256)))))
+    (cond (eqb p printable) (leb 32 b && leb b 126)
+    (cond (ltb p 65536) (eqb b 32 || eqb b (p % 256)) (eqb b 32 || eqb b (p / 256 % 256) || eqb b (p % 256))))))
 
 -- 2: "a fixed byte differs"; 3: "no digit in a digit place"; 4: "a flag place holds another character"
--- (01, Refusal numbers); at a free place no byte offends, so that its 4 is never given
+-- (01, Refusal numbers); "any bytes from 32 to 126 (others give 2)" (02, T-01); at a free place no byte offends, so that
+-- its 4 is never given
 unfoldable pub errorAt : ℕ → ℕ
-errorAt p = cond (ltb p 256) 2 (cond (eqb p digit) 3 4)
+errorAt p = cond (ltb p 256 || eqb p printable) 2 (cond (eqb p digit) 3 4)
 
 -- the error number of the byte b at the place p, 0 if it may stand there
 unfoldable pub offence : ℕ → ℕ → ℕ

@@ -15,6 +15,9 @@ ghost use Rattle.layout.specs.Text.{supportedDay, clockChecks, clockDigi
 ghost use mathlib.Core.Bool.{cond, false};
 ghost use Rattle.calendar.specs.Date.{withWeekday};
 
+// The place of a byte from 32 to 126.
+const PRINTABLE: u32 = 258;
+
 // The places of flags, each named after the small letter that stands for it in a pattern. ZONE and ANNOUNCED are X and Y
 // there, which have two letters each.
 const T: u32 = 512 + 85;
@@ -50,7 +53,8 @@ fn sample_place(p: u8) -> u32
     p as u32
 }
 
-// The place that a byte of a pattern stands for: a flag's letter for the flag, another byte as in a sample.
+// The place that a byte of a pattern stands for: a flag's letter for the flag, `r` for a byte from 32 to 126, another byte as
+// in a sample.
 fn pattern_place(p: u8) -> u32
     ensures { λ r. ⌜ r ≡ patternPlace p ⌝ }
 {
@@ -65,6 +69,7 @@ fn pattern_place(p: u8) -> u32
         b'b' => B,
         b'X' => ZONE,
         b'Y' => ANNOUNCED,
+        b'r' => PRINTABLE,
         _ => sample_place(p),
     }
 }
@@ -82,6 +87,9 @@ fn is_allowed(p: u32, b: u8) -> bool
     if p == 257 {
         return true;
     }
+    if p == PRINTABLE {
+        return (32 <= b) & (b <= 126);
+    }
     if p < 65536 {
         return (c == 32) | (c == p % 256);
     }
@@ -91,7 +99,7 @@ fn is_allowed(p: u32, b: u8) -> bool
 fn error_at(p: u32) -> u8
     ensures { λ r. ⌜ r ≡ errorAt p ⌝ }
 {
-    if p < 256 {
+    if (p < 256) | (p == PRINTABLE) {
         return 2;
     }
     if p == 256 {

@@ -8,4 +8,5 @@ pub is-allowed-spec : {M : Type 1} → statement M
 unfolding allowed isDigit
 is-allowed-spec =
     tie.close
-    (tie.spec (λ c. search tests) (λ c. search tests) (λ c. search tests) (λ c. search tests) (λ c. search tests))
+    (tie.spec (λ c. search tests) (λ c. search tests) (λ c. search tests) (λ c. search tests) (λ c. search tests)
+    (λ c. search tests))

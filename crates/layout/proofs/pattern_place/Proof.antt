@@ -4,11 +4,12 @@ use Rattle.layout.specs.Layout.{patternPlace}
 use Rattle.layout.proofs.pattern_place.Statement.{statement}
 use Rattle.layout.proofs.pattern_place.Tie as tie
 
-returns-11 : tie.Need-returns-11
+returns-12 : tie.Need-returns-12
 unfolding patternPlace
-returns-11 c =
+returns-12 c =
     let r = c .before .match .rest in
     simp (
+      ne-eqb _ _ (r .0 .0 .0 .0 .0 .0 .0 .0 .0 .0 .1),
       ne-eqb _ _ (r .0 .0 .0 .0 .0 .0 .0 .0 .0 .1),
       ne-eqb _ _ (r .0 .0 .0 .0 .0 .0 .0 .0 .1),
       ne-eqb _ _ (r .0 .0 .0 .0 .0 .0 .0 .1),
@@ -29,4 +30,4 @@ pattern-place-spec =
     (tie.spec (λ c κs. search needs) (λ c. rw (c .match .keys1)) (λ c. rw (c .match .keys2))
     (λ c. rw (c .match .keys3)) (λ c. rw (c .match .keys4)) (λ c. rw (c .match .keys5)) (λ c. rw (c .match .keys6))
     (λ c. rw (c .match .keys7)) (λ c. rw (c .match .keys8)) (λ c. rw (c .match .keys9)) (λ c. rw (c .match .keys10))
-    returns-11)
+    (λ c. rw (c .match .keys11)) returns-12)

@@ -19,7 +19,8 @@ fn join(a: u8, b: u8, c: u8, d: u8, e: u8, f: u8, g: u8, h: u8) -> u64
     bits::join_eight(a, b, c, d, e, f, g, h)
 }
 
-fn word_at(s: &[u8], at: usize) -> u64
+// The number of the eight bytes from a place on, the first the lowest; 0 if eight are not there.
+pub fn word_at(s: &[u8], at: usize) -> u64
     ensures { λ r. ⌜ r ≡ word (slice at 8 (enough at (now (s .entry)))) ⌝ }
 {
     if s.len() < 8 {

@@ -1,0 +1,8 @@
+-- Laws of the definitions, and the main results.
+pub mod XorLaws
+pub mod SumLaws
+pub mod TrimbleLaws
+pub mod Checks
+pub mod SaysLaws
+pub mod LinesLaws
+pub mod Theorems

@@ -67,10 +67,12 @@ fn read_fitting(s: &[u8]) -> TrimbleAnswer
     requires { ⌜ (length (now s) ≡ 37) × FitsLayout trimbleLayout (now s) ⌝ }
     ensures { λ r. ⌜ trimbleAnswer r ≡ readTrimble (now (s .entry)) ⌝ }
 {
-    if !sum::holds(s) {
+    let right = sum::holds(s);
+    let valid = s[26] == b'1';
+    if !right {
         return TrimbleAnswer::Refused(Error::Checksum);
     }
-    if s[26] != b'1' {
+    if !valid {
         return TrimbleAnswer::Refused(Error::ValidityFlag);
     }
     match layout::check_without_weekday(sent_fields(s)) {

@@ -10,9 +10,10 @@ use Rattle.clock_time.specs.Exit.{Exit, leaves}
 use Rattle.clock_time.specs.declared.ClockTime.{ClockTime}
 use Rattle.meinberg_gps.specs.declared.GpsTime.{GpsTime}
 use Rattle.dcf77.specs.declared.MinuteTime.{MinuteTime}
+use Rattle.trimble_sv6.specs.declared.TrimbleTime.{TrimbleTime}
 use Rattle.clock_time.specs.Called.{leaving}
 
--- how many numbers a clock time is, one with a position, and a minute
+-- how many numbers a clock time is, one with a position, a minute, and a clock time with milliseconds
 abbrev pub timeCount : ℕ
 timeCount = 14
 
@@ -21,6 +22,9 @@ gpsCount = 17
 
 abbrev pub minuteCount : ℕ
 minuteCount = 16
+
+abbrev pub trimbleCount : ℕ
+trimbleCount = 15
 
 -- a flag as a number: 1 if it is set, else 0
 abbrev pub flagNumber : Bool → ℤ
@@ -55,6 +59,10 @@ gpsNumbers g =
 -- "a minute adds its marks 1..14 and whether it had 60 marks" (01, The reading)
 unfoldable pub minuteNumbers : MinuteTime → List ℤ
 minuteNumbers a = timeNumbers (a .time) ++ (pos (a .detail .«first_marks») ∷ flagNumber (a .detail .sixty) ∷ [])
+
+-- "The milliseconds are handed over beside the reading." (02, T-01)
+unfoldable pub trimbleNumbers : TrimbleTime → List ℤ
+trimbleNumbers g = timeNumbers (g .time) ++ (pos (g .milliseconds) ∷ [])
 
 -- 20: "lent memory: [..] a buffer too short to write to"; "it fills the first places it needs and changes nothing after
 -- them" (01, Refusal numbers): numbers are put in front

@@ -5,6 +5,8 @@ use dcf77::MinuteAnswer;
 use dcf77::MinuteTime;
 use meinberg_gps::GpsAnswer;
 use meinberg_gps::GpsTime;
+use trimble_sv6::TrimbleAnswer;
+use trimble_sv6::TrimbleTime;
 ghost use mathlib.Core.Path.{_≡_};
 ghost use mathlib.Core.List.{[], _∷_, _++_};
 ghost use Prim.Native.Nat.{_≤_};
@@ -12,18 +14,21 @@ ghost use lib.IntN.{pos};
 ghost use lib.ListN.{length, take, drop};
 ghost use Rattle.meinberg_gps.specs.Gps.{gpsAnswer};
 ghost use Rattle.dcf77.specs.Minute.{minuteAnswer};
+ghost use Rattle.trimble_sv6.specs.Trimble.{trimbleAnswer};
 ghost use Rattle.clock_time.specs.Called.{called, calledMemory};
 ghost use Rattle.clock_time.specs.Reading.{readAnswer};
 ghost use Rattle.c_numbers.specs.Numbers.{flagNumber, timeNumbers, gpsNumbers, minuteNumbers, putNumbers};
-ghost use Rattle.c_numbers.specs.Numbers.{gpsCount};
+ghost use Rattle.c_numbers.specs.Numbers.{trimbleNumbers, gpsCount};
 ghost use Rattle.c_numbers.specs.Numbers.{putAnswer};
 
-// How many numbers a clock time is, one with a position, and a minute.
+// How many numbers a clock time is, one with a position, a minute, and a clock time with milliseconds.
 pub const TIME_FIELDS: usize = 14;
 
 pub const GPS_FIELDS: usize = 17;
 
 pub const MINUTE_FIELDS: usize = 16;
+
+pub const TRIMBLE_FIELDS: usize = 15;
 
 fn number(x: u16) -> i32
     ensures { λ r. ⌜ r ≡ pos x ⌝ }
@@ -138,6 +143,15 @@ fn put_detail(a: MinuteTime, fields: &mut [i32]) -> u8
     )
 }
 
+fn put_milliseconds(g: TrimbleTime, fields: &mut [i32]) -> u8
+    ensures { λ r. ⌜
+        called r (now (fields .exit)) ≡ calledMemory (putNumbers (trimbleNumbers g) (now (fields .entry)))
+        ⌝ }
+{
+    let t = g.time;
+    put_with(t, number(g.milliseconds), 0, 0, TRIMBLE_FIELDS, fields)
+}
+
 // Puts the 14 numbers of a clock time that was read in front of those lent. Refuses as the reader did, then with
 // LentMemory (20) if there is no room.
 pub fn put_time(answer: ReadAnswer, fields: &mut [i32]) -> u8
@@ -173,5 +187,18 @@ pub fn put_minute(answer: MinuteAnswer, fields: &mut [i32]) -> u8
     match answer {
         MinuteAnswer::Read(a) => put_detail(a, fields),
         MinuteAnswer::Refused(e) => clock_time::error_number(e),
+    }
+}
+
+// The same for the 15 numbers of a Trimble string.
+pub fn put_trimble(answer: TrimbleAnswer, fields: &mut [i32]) -> u8
+    ensures { λ r. ⌜
+        called r (now (fields .exit))
+        ≡ calledMemory (putAnswer trimbleNumbers (trimbleAnswer answer) (now (fields .entry)))
+        ⌝ }
+{
+    match answer {
+        TrimbleAnswer::Read(g) => put_milliseconds(g, fields),
+        TrimbleAnswer::Refused(e) => clock_time::error_number(e),
     }
 }

@@ -1,3 +1,4 @@
 -- The definitions that the contracts cite.
 pub mod Strings
 pub mod Minutes
+pub mod Trimble

@@ -4,4 +4,5 @@ pub mod feed;
 pub mod instant;
 pub mod minutes;
 pub mod strings;
+pub mod trimble;
 mod written;

@@ -1,21 +1,23 @@
 -- Laws of the Trimble string: its numbers of three and four digits, and its reading once it fits its layout.
 use Prim.Native.Nat.{ℕ, suc, _+_, _*_}
 use native.Mathlib.Omega.{arith}
-use mathlib.Core.Path.{_≡_, sym, ap, _∙_}
-use mathlib.Core.Bool.{true, false}
+use mathlib.Core.Path.{_≡_, _∙_}
+use borrow.Author.Tests.{le-leb}
+use mathlib.Core.Bool.{Bool, true, false}
 use mathlib.Core.List.{List}
-use Rattle.clock_time.specs.Errors.{Answer, refused, checked}
+use Rattle.clock_time.specs.Errors.{accepted, refused, checked}
 use Rattle.clock_time.specs.declared.ClockTime.{ClockTime}
-use Rattle.clock_time.proofs.ErrorLaws.{mapped, checked-mapped}
+use Rattle.gregorian.specs.Date.{supportedDate, firstYear, lastYear}
 use Rattle.calendar.specs.Date.{withWeekday}
+use Rattle.calendar.specs.TimeOfDay.{timeExists}
+use Rattle.calendar.proofs.WeekdayLaws.{weekday-least, weekday-most}
 use Rattle.decimal.specs.Decimal.{valueFrom}
 use Rattle.layout.specs.Layout.{FitsLayout, number, has}
 use Rattle.layout.specs.Text.{supportedDay, clockChecks}
 use Rattle.layout.proofs.TextLaws.{laterChecks, read-fitting}
 use Rattle.trimble_sv6.specs.Sum.{sumHolds}
-use Rattle.trimble_sv6.specs.Trimble.{trimbleLayout, sentFields, millisecondsOf, trimbleFields}
-use Rattle.trimble_sv6.specs.Trimble.{trimble, readTrimble}
-use Rattle.trimble_sv6.specs.declared.TrimbleTime.{TrimbleTime}
+use Rattle.trimble_sv6.specs.Trimble.{trimbleLayout, sentFields, trimbleFields, readClock, trimble}
+use Rattle.trimble_sv6.specs.Trimble.{readTrimble}
 use Rattle.trimble_sv6.specs.Says.{threeDigitsAt, fourDigitsAt}
 
 -- ---- digits
@@ -38,10 +40,6 @@ module _ (s : List ℕ) (at : ℕ) where
   four-number = omega arith
 
 -- ---- a string that fits its layout
--- a clock time with the string's milliseconds
-abbrev pub timed : List ℕ → ClockTime → TrimbleTime
-timed s t = record { time = t; milliseconds = millisecondsOf s }
-
 module _ {s : List ℕ} (f : FitsLayout trimbleLayout s) where
   read-fits : readTrimble s ≡ checked (laterChecks trimble s) (trimbleFields s)
   unfolding readTrimble trimble
@@ -55,12 +53,27 @@ module _ {s : List ℕ} (f : FitsLayout trimbleLayout s) where
   unfolding trimble
   read-invalid h k = read-fits ∙ rw (h, k)
 
-  pub read-clock : sumHolds s ≡ true → has "1" 26 s ≡ true → {r : Answer ClockTime} → let t = sentFields s in
-      r ≡ checked (clockChecks (supportedDay t) (withWeekday t) false) (withWeekday t)
-      → mapped (timed s) r ≡ readTrimble s
-  unfolding trimble trimbleFields supportedDay withWeekday
-  read-clock h k e =
-      ap (mapped (timed s)) e
-      ∙ checked-mapped (timed s) (clockChecks (supportedDay (sentFields s)) (withWeekday (sentFields s)) false)
-      (withWeekday (sentFields s))
-      ∙ sym (read-fits ∙ rw (h, k))
+  pub read-right : sumHolds s ≡ true → has "1" 26 s ≡ true → readTrimble s ≡ readClock s
+  unfolding trimble
+  read-right h k = read-fits ∙ rw (h, k)
+
+-- ---- its clock time
+-- the fields that are sent have no such date, or one and no such time, or both
+module _ (s : List ℕ) where
+  abbrev date : ClockTime → Bool
+  date t = supportedDate firstYear lastYear (t .year) (t .month) (t .day)
+
+  abbrev time : ClockTime → Bool
+  time t = timeExists (t .hour) (t .minute) (t .second) (t .«utc_offset»)
+
+  pub no-date : date (sentFields s) ≡ false → refused 5 ≡ readClock s
+  unfolding clockChecks supportedDay trimbleFields withWeekday
+  no-date d = simp d
+
+  pub no-time : date (sentFields s) ≡ true → time (sentFields s) ≡ false → refused 6 ≡ readClock s
+  unfolding clockChecks supportedDay trimbleFields withWeekday
+  no-time d t = simp (d, t)
+
+  pub dated : date (sentFields s) ≡ true → time (sentFields s) ≡ true → accepted (trimbleFields s) ≡ readClock s
+  unfolding clockChecks supportedDay trimbleFields withWeekday
+  dated d t = simp (d, t, le-leb _ _ (weekday-least _ _ _ d), le-leb _ _ (weekday-most _ _ _ d))

@@ -3,12 +3,12 @@ use Prim.Native.Nat.{ℕ}
 use mathlib.Core.Bool.{Bool, false, not}
 use mathlib.Core.List.{List, [], _∷_, _++_}
 use lib.IntN.{pos}
-use Rattle.clock_time.specs.Errors.{Answer, accepted, refused, errorNumber, given}
+use Rattle.clock_time.specs.Errors.{Answer, accepted, refused, errorNumber, given, checked}
 use Rattle.clock_time.specs.Lists.{ascii}
 use Rattle.clock_time.specs.declared.ClockTime.{ClockTime}
 use Rattle.calendar.specs.Date.{withWeekday}
 use Rattle.layout.specs.Layout.{digit, free, printable, places, number, has}
-use Rattle.layout.specs.Text.{Format, supportedDay, readText}
+use Rattle.layout.specs.Text.{Format, supportedDay, clockChecks, readText}
 use Rattle.trimble_sv6.specs.Sum.{sumHolds}
 use Rattle.trimble_sv6.specs.declared.TrimbleTime.{TrimbleTime}
 use Rattle.trimble_sv6.specs.declared.TrimbleAnswer.{TrimbleAnswer}
@@ -47,6 +47,11 @@ millisecondsOf s = number 3 10 s
 -- "weekday is worked out"; "The milliseconds are handed over beside the reading." (02, T-01)
 unfoldable pub trimbleFields : List ℕ → TrimbleTime
 trimbleFields s = record { time = withWeekday (sentFields s); milliseconds = millisecondsOf s }
+
+-- what is left to check once the sum and v hold
+abbrev pub readClock : List ℕ → Answer TrimbleTime
+readClock s =
+    let t = trimbleFields s .time in checked (clockChecks (supportedDay t) t false) (trimbleFields s)
 
 -- the format; "24, the sum is wrong or no hex, after 3; 25, v is not `1`, after 24"; "years 1970 to 2069, else 5" (02,
 -- T-01). No place is a flag's, so that 4 is never given, and a date of these years has a weekday, so that 7 is not.

@@ -1,13 +1,13 @@
 // The string of a Trimble SV6 receiver.
 use clock_time::ClockTime;
 use clock_time::Error;
-use clock_time::ReadAnswer;
 ghost use mathlib.Core.Path.{_≡_};
 ghost use Prim.Native.Nat.{_<_};
 ghost use lib.ListN.{length};
 ghost use Rattle.layout.specs.Layout.{FitsLayout};
 ghost use Rattle.layout_words.specs.Words.{lowPair};
-ghost use Rattle.trimble_sv6.specs.Trimble.{trimbleLayout, sentFields, millisecondsOf, readTrimble, trimbleAnswer};
+ghost use Rattle.trimble_sv6.specs.Trimble.{trimbleLayout, sentFields, millisecondsOf, readClock, readTrimble};
+ghost use Rattle.trimble_sv6.specs.Trimble.{trimbleAnswer};
 
 mod places;
 mod sum;
@@ -62,6 +62,26 @@ fn milliseconds(s: &[u8]) -> u16
     100 * ((s[10] % 16) as u16) + pair_at(s, 11) as u16
 }
 
+// Reads the clock time of a string whose sum and validity hold. Refuses with NoSuchDate (5) if the date is not one of
+// 1970 to 2069, then with NoSuchTime (6). The tests stand here and not in a call of `check_without_weekday`: with a second
+// caller the compiler would no longer inline that into the reader of ELV strings.
+fn read_clock(s: &[u8]) -> TrimbleAnswer
+    requires { ⌜ (length (now s) ≡ 37) × FitsLayout trimbleLayout (now s) ⌝ }
+    ensures { λ r. ⌜ trimbleAnswer r ≡ readClock (now (s .entry)) ⌝ }
+{
+    let t = sent_fields(s);
+    if !gregorian::is_supported_date(t.year, t.month, t.day) {
+        return TrimbleAnswer::Refused(Error::NoSuchDate);
+    }
+    if !calendar::time_of_day::time_exists(t.hour, t.minute, t.second, t.utc_offset) {
+        return TrimbleAnswer::Refused(Error::NoSuchTime);
+    }
+    TrimbleAnswer::Read(TrimbleTime {
+        time: calendar::date::with_weekday(t),
+        milliseconds: milliseconds(s),
+    })
+}
+
 // Reads a string that fits its layout.
 fn read_fitting(s: &[u8]) -> TrimbleAnswer
     requires { ⌜ (length (now s) ≡ 37) × FitsLayout trimbleLayout (now s) ⌝ }
@@ -75,13 +95,7 @@ fn read_fitting(s: &[u8]) -> TrimbleAnswer
     if !valid {
         return TrimbleAnswer::Refused(Error::ValidityFlag);
     }
-    match layout::check_without_weekday(sent_fields(s)) {
-        ReadAnswer::Read(time) => TrimbleAnswer::Read(TrimbleTime {
-            time: time,
-            milliseconds: milliseconds(s),
-        }),
-        ReadAnswer::Refused(e) => TrimbleAnswer::Refused(e),
-    }
+    read_clock(s)
 }
 
 // Reads a Trimble SV6 string: the clock time and the milliseconds. Refuses with the first that holds of Length (1),

@@ -1,6 +1,8 @@
 // The string of a Trimble SV6 receiver.
 use clock_time::ClockTime;
 use clock_time::Error;
+use gregorian::FIRST_YEAR;
+use gregorian::LAST_YEAR;
 ghost use mathlib.Core.Path.{_≡_};
 ghost use Prim.Native.Nat.{_<_};
 ghost use lib.ListN.{length};
@@ -70,7 +72,7 @@ fn read_clock(s: &[u8]) -> TrimbleAnswer
     ensures { λ r. ⌜ trimbleAnswer r ≡ readClock (now (s .entry)) ⌝ }
 {
     let t = sent_fields(s);
-    if !gregorian::is_supported_date(t.year, t.month, t.day) {
+    if !gregorian::is_supported_date(FIRST_YEAR, LAST_YEAR, t.year, t.month, t.day) {
         return TrimbleAnswer::Refused(Error::NoSuchDate);
     }
     if !calendar::time_of_day::time_exists(t.hour, t.minute, t.second, t.utc_offset) {

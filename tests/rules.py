@@ -1,9 +1,11 @@
-"""Document 01's rules for time strings, in plain Python: written from the paper, sharing nothing with the library.
+"""Document 01's rules for time strings, and document 02's for the Trimble's (T-01), in plain Python: written from the
+papers, sharing nothing with the library.
 
 A reading is a dict with its fields in the paper's order. `read_KIND(bytes)` gives (0, reading) or (refusal number,
 place): for 2, 3 and 4 the place of the first such byte, else 0. `write(kind, reading)` gives the bytes, or None if
 nothing that is accepted reads as the reading. A caller may name whether the receiver sends U, and the first of the
-hundred years that two digits mean; SENDS_U and FIRST_YEAR hold if it does not.
+hundred years that two digits mean; SENDS_U and FIRST_YEAR hold if it does not. A Trimble string is of no kind and is
+only read.
 """
 import calendar
 from datetime import date
@@ -77,7 +79,7 @@ def places(picture, **letters):
     return [letters.get(chr(b), b) for b in picture]
 
 
-DIGIT, FREE = "digit", "free"
+DIGIT, PRINTABLE, FREE = "digit", "printable", "free"
 
 STANDARD = places(
     b"\x02D:dd.dd.dd;T:d;U:dd.dd.dd;uvxy\x03", d=DIGIT, u="#", v="*", x="US", y="!A"
@@ -88,6 +90,8 @@ GPS = places(
     d=DIGIT, f=FREE, u="#", v="*", x="S", y="!", z="A", a="R", b="L",
 )
 ELV = places(b"dd-dd-dd-dd-dd-dd-dd\r", d=DIGIT)
+# In the paper `>RTMhhmmssdddDDMMYYYYoodnnvrrrrr;*xx<`: here every digit is a d.
+TRIMBLE = places(b">RTMddddddddddddddddddddddvrrrrr;*xx<", d=DIGIT, v=FREE, r=PRINTABLE, x=FREE)
 
 
 def refuse_first(number, wrong):
@@ -96,13 +100,18 @@ def refuse_first(number, wrong):
         raise Refused(number, wrong.index(True))
 
 
+def wrong_byte(place, byte):
+    """Whether a byte is another than the fixed one, or outside 32 to 126 ('others give 2') if it must be printable."""
+    return byte not in range(32, 127) if place == PRINTABLE else isinstance(place, int) and byte != place
+
+
 def check_layout(layout, s):
     """The first four of 'Order for text: 1, 2, 3, 4, 8, 9, 5, 6, 7.', each over the whole string before the next."""
     if len(s) != len(layout):
         raise Refused(1)
     pairs = list(zip(layout, s))
-    flags = [isinstance(p, str) and p not in (DIGIT, FREE) for p in layout]
-    refuse_first(2, [isinstance(p, int) and b != p for p, b in pairs])
+    flags = [isinstance(p, str) and p not in (DIGIT, PRINTABLE, FREE) for p in layout]
+    refuse_first(2, [wrong_byte(p, b) for p, b in pairs])
     refuse_first(3, [p == DIGIT and not is_digit(b) for p, b in pairs])
     refuse_first(4, [flag and b not in (" " + p).encode() for flag, (p, b) in zip(flags, pairs)])
 
@@ -200,10 +209,41 @@ def read_elv(s, first_year=FIRST_YEAR):
     letters = ("S" if flags & 1 else "") + ("!" if flags & 2 else "") + ("#" if flags & 4 else "")
     r = reading(full_year(number(s, 0, 2), first_year), number(s, 3, 2), number(s, 6, 2), 1, number(s, 9, 2),
                 number(s, 12, 2), number(s, 15, 2), 120 if flags & 1 else 60, letters)
-    if date_exists(r["year"], r["month"], r["day"]):
-        r["weekday"] = weekday_of(r["year"], r["month"], r["day"])
     check_clock(r)
-    return r
+    return with_weekday(r)
+
+
+def with_weekday(r):
+    """A reading that was sent without a weekday, with that of its date."""
+    return dict(r, weekday=weekday_of(r["year"], r["month"], r["day"]))
+
+
+def exclusive_or(s):
+    total = 0
+    for byte in s:
+        total ^= byte
+    return total
+
+
+def trimble_sum(s):
+    """'xx is two capital hex digits of the exclusive or of places 0 to 33.'"""
+    return b"%02X" % exclusive_or(s[:34])
+
+
+@checked
+def read_trimble(s, first_year=FIRST_YEAR):
+    """Order 1, 2, 3, 24, 25, 5, 6. Of oo at 21, d at 23 and nn at 24 only that they are digits is looked at."""
+    check_layout(TRIMBLE, s)
+    if s[34:36] != trimble_sum(s):
+        raise Refused(24)
+    if s[26:27] != b"1":
+        raise Refused(25)
+    r = reading(number(s, 17, 4), number(s, 15, 2), number(s, 13, 2), 1, number(s, 4, 2), number(s, 6, 2),
+                number(s, 8, 2), 0)
+    if r["year"] not in range(first_year, first_year + 100):
+        raise Refused(5)
+    check_clock(r)
+    return dict(with_weekday(r), milliseconds=number(s, 10, 3))
 
 
 READERS = {"pzf": read_pzf, "gps": read_gps, "elv": read_elv}

@@ -4,7 +4,8 @@
 Usage: vectors.py stdin > crates/vectors/stdin
        vectors.py stdout > crates/vectors/stdout
 
-The answers come from Python's `datetime` and `calendar` and from the rules of document 01, none from our own code.
+The answers come from Python's `datetime` and `calendar` and from the rules of documents 01 and 02, none from our own
+code.
 """
 import calendar
 import random
@@ -15,6 +16,7 @@ import minute_vectors
 import recording_vectors
 import rules
 import string_vectors
+import trimble_vectors
 
 NOT_UNDERSTOOD = "?"
 NO_SUCH_DATE = "refused 5"
@@ -26,7 +28,7 @@ EPOCH = datetime(1970, 1, 1)
 
 
 def error(place):
-    """Document 01 numbers its refusals from 1 to 23, in the order of its table."""
+    """Document 01 numbers its refusals from 1 to 23, in the order of its table; document 02 goes on with 24 and 25."""
     return f"error {place}", str(place + 1)
 
 
@@ -102,7 +104,7 @@ def last_minute(offset):
 
 def errors():
     yield "The numbers of the errors, in the order of document 01"
-    for place in range(23):
+    for place in range(25):
         yield error(place)
 
 
@@ -316,7 +318,8 @@ def main():
     string_vectors.check_against_document()
     minute_vectors.check_against_document()
     recording_vectors.check_against_document()
-    named = (*string_vectors.SECTIONS, *minute_vectors.SECTIONS, *recording_vectors.SECTIONS)
+    trimble_vectors.check_against_document()
+    named = (*string_vectors.SECTIONS, *minute_vectors.SECTIONS, *recording_vectors.SECTIONS, *trimble_vectors.SECTIONS)
     for section in (*SECTIONS, *map(with_heading, named)):
         for row in section():
             if isinstance(row, str):

@@ -32,7 +32,8 @@ PLAIN = $(CC) -std=c99 -O2 $(WARN) -Iinclude -Itests/c
 CHECKED = $(CC) -std=c99 -O1 -g $(WARN) -fsanitize=address,undefined -fno-sanitize-recover=all -Iinclude -Itests/c
 COMPARE = $(addprefix tests/c/,by_name.c compare.c examples.c inputs.c lend.c reference.c)
 BENCH = $(addprefix tests/c/,bench.c bench_plain.c inputs.c reference.c)
-ENTRIES = kind read write read_minute write_minute unix_time outcome_at outcome_unix_time fill_outcomes correct_mark feed
+ENTRIES = kind read read_trimble write read_minute write_minute unix_time outcome_at outcome_unix_time fill_outcomes \
+          correct_mark feed
 HEADERS = include/radio_clock.h $(wildcard tests/c/*.h)
 
 # The version stands in the header and nowhere else.

@@ -1,4 +1,4 @@
-/* Radio clocks: time strings of Meinberg and ELV receivers, and DCF77 second marks.
+/* Radio clocks: time strings of Meinberg, ELV and Trimble receivers, and DCF77 second marks.
  *
  * This header has two parts. The first declares the functions of libradio_clock.a, each of which is proved to meet its
  * contract. The second, from struct radio_clock_time on, is inline C over them, for calls by name: it is tested, not
@@ -8,13 +8,14 @@
  * from UTC. Order and compare times only by their Unix time: in October, when summer time ends, two instants an hour
  * apart have the same local time.
  *
- * Answers. Every function of the first part, radio_clock_read_string and radio_clock_read_marks return 0 if they did
- * what they say, else the number of an error, and then nothing lent has changed. The comments name an error without its
- * RADIO_CLOCK_ERROR_, and its number after it: LENGTH (1).
+ * Answers. Every function of the first part, radio_clock_read_string, radio_clock_read_trimble_string and
+ * radio_clock_read_marks return 0 if they did what they say, else the number of an error, and then nothing lent has
+ * changed. The comments name an error without its RADIO_CLOCK_ERROR_, and its number after it: LENGTH (1).
  *
  * Trust. 0 means that a string or a minute is well-formed, not that its time is right: a receiver that hears no
  * transmitter goes on sending strings. Look at the fields unsynchronised and unverified before you use a time. In a
- * minute of second marks both are always 0, and parity misses two wrong marks: compare a minute with those around it.
+ * Trimble string both are always 0: one whose validity flag is not set is refused. In a minute of second marks both are
+ * always 0, and parity misses two wrong marks: compare a minute with those around it.
  *
  * Memory. Results go into memory that the caller lends. No pointer may be NULL, even if its length is 0: lend the
  * address of any object of its type then. What a call may change overlaps nothing else lent to it. No function keeps a
@@ -30,7 +31,7 @@
 #include <stddef.h>
 #include <stdint.h>
 
-#define RADIO_CLOCK_VERSION "0.2.0"
+#define RADIO_CLOCK_VERSION "0.3.0"
 
 #ifdef __cplusplus
 extern "C" {
@@ -76,7 +77,9 @@ enum radio_clock_error {
     RADIO_CLOCK_ERROR_LENT_MEMORY = 20,
     RADIO_CLOCK_ERROR_PLACE = 21,
     RADIO_CLOCK_ERROR_NEW_MARK = 22,
-    RADIO_CLOCK_ERROR_UNREPRESENTABLE = 23
+    RADIO_CLOCK_ERROR_UNREPRESENTABLE = 23,
+    RADIO_CLOCK_ERROR_CHECKSUM = 24,
+    RADIO_CLOCK_ERROR_VALIDITY_FLAG = 25
 };
 
 /* The fields of a clock time, by their place in an array. Year to second are local time. Flags are 0 or 1. */
@@ -102,6 +105,9 @@ enum radio_clock_field {
     RADIO_CLOCK_HEIGHT = 16,    /* metres */
     RADIO_CLOCK_GPS_FIELDS = 17, /* how many a GPS string has */
 
+    RADIO_CLOCK_MILLISECONDS = 14,   /* 0 to 999, in a Trimble string */
+    RADIO_CLOCK_TRIMBLE_FIELDS = 15, /* how many a Trimble string has */
+
     RADIO_CLOCK_FIRST_MARKS = 14, /* marks 1 to 14 of a minute, mark 1 the lowest bit */
     RADIO_CLOCK_SIXTY_MARKS = 15, /* whether the minute had 60 marks */
     RADIO_CLOCK_MINUTE_FIELDS = 16 /* how many a minute has */
@@ -125,6 +131,14 @@ uint8_t radio_clock_kind(const uint8_t *s, size_t n, uint8_t *kind);
  * Then LENT_MEMORY (20) if room is below 14, for GPS below 17. Else the first 14 or 17 fields are set, and nothing
  * after them. */
 uint8_t radio_clock_read(uint8_t kind, const uint8_t *s, size_t n, int32_t *fields, size_t room);
+
+/* Reads a string of a Trimble SV6, 37 bytes: >RTMhhmmssdddDDMMYYYYoodnnvrrrrr;*xx<. Its time is UTC. It is of none of
+ * the kinds above: radio_clock_kind and radio_clock_read refuse it with LENGTH (1), and no function writes it.
+ * The first of these that holds: LENGTH (1), FIXED_BYTE (2), also for a byte of rrrrr outside 32 to 126, NOT_DIGIT (3),
+ * CHECKSUM (24) if xx is not the exclusive or of the bytes at places 0 to 33 in two capital hexadecimal digits,
+ * VALIDITY_FLAG (25) if v is not 1, NO_SUCH_DATE (5), also if the year is not 1970 to 2069, NO_SUCH_TIME (6). Then
+ * LENT_MEMORY (20) if room is below 15. Else the first 15 fields are set, and nothing after them. */
+uint8_t radio_clock_read_trimble(const uint8_t *s, size_t n, int32_t *fields, size_t room);
 
 /* Writes the string of the kind named that reads as these fields.
  * LENGTH (1) if there is no such kind. UNREPRESENTABLE (23) if count is not 14, for GPS 17, or if no string of the kind
@@ -279,6 +293,22 @@ static inline uint8_t radio_clock_read_string(const uint8_t *s, size_t n, uint8_
     return 0;
 }
 
+/* Reads a Trimble string and works out its Unix time: the errors of radio_clock_read_trimble. Else *t is its time,
+ * which is UTC, *time its Unix time, and *milliseconds how far it is past that second: 0 to 999. */
+static inline uint8_t radio_clock_read_trimble_string(const uint8_t *s, size_t n, struct radio_clock_time *t,
+                                                      int32_t *milliseconds, int64_t *time)
+{
+    int32_t fields[RADIO_CLOCK_TRIMBLE_FIELDS];
+    uint8_t error = radio_clock_read_trimble(s, n, fields, RADIO_CLOCK_TRIMBLE_FIELDS);
+    if (error == 0)
+        error = radio_clock_unix_time(fields, RADIO_CLOCK_TIME_FIELDS, time);
+    if (error != 0)
+        return error;
+    *t = radio_clock_time_of(fields);
+    *milliseconds = fields[RADIO_CLOCK_MILLISECONDS];
+    return 0;
+}
+
 /* Reads a minute and works out the Unix time that it announces: the errors of radio_clock_read_minute. */
 static inline uint8_t radio_clock_read_marks(const uint8_t *marks, size_t n, struct radio_clock_time *t,
                                              struct radio_clock_minute_detail *detail, int64_t *time)
@@ -350,6 +380,8 @@ static inline const char *radio_clock_error_text(uint8_t error)
         "place at or past the end of the recording",
         "new mark above 3",
         "nothing accepted in this format reads so",
+        "the check sum is wrong, or not two capital hexadecimal digits",
+        "the validity flag is not 1",
     };
     return error < sizeof texts / sizeof texts[0] ? texts[error] : "no such error number";
 }

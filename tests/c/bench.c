@@ -19,6 +19,7 @@ enum { INPUTS = 1024, LINE = 65536, DAY = 86400, HOUR = 3600, ROUNDS = 400 };
 struct side {
     const char *name;
     uint8_t (*read)(uint8_t, const uint8_t *, size_t, int32_t *, size_t);
+    uint8_t (*read_trimble)(const uint8_t *, size_t, int32_t *, size_t);
     uint8_t (*write)(uint8_t, const int32_t *, size_t, uint8_t *, size_t, size_t *);
     uint8_t (*read_minute)(const uint8_t *, size_t, int32_t *, size_t);
     uint8_t (*write_minute)(const int32_t *, size_t, uint8_t *, size_t, size_t *);
@@ -29,15 +30,16 @@ struct side {
 };
 
 static const struct side sides[2] = {
-    { "library", radio_clock_read, radio_clock_write, radio_clock_read_minute, radio_clock_write_minute,
-      radio_clock_unix_time, radio_clock_fill_outcomes, radio_clock_correct_mark, radio_clock_feed },
-    { "plain", plain_read, plain_write, plain_read_minute, plain_write_minute, plain_unix_time, plain_fill_outcomes,
-      plain_correct_mark, plain_feed },
+    { "library", radio_clock_read, radio_clock_read_trimble, radio_clock_write, radio_clock_read_minute,
+      radio_clock_write_minute, radio_clock_unix_time, radio_clock_fill_outcomes, radio_clock_correct_mark,
+      radio_clock_feed },
+    { "plain", plain_read, plain_read_trimble, plain_write, plain_read_minute, plain_write_minute, plain_unix_time,
+      plain_fill_outcomes, plain_correct_mark, plain_feed },
 };
 
-static uint8_t strings[4][INPUTS][66], minutes[INPUTS][60], line[LINE], tape[DAY];
+static uint8_t strings[FORMATS][INPUTS][66], minutes[INPUTS][60], line[LINE], tape[DAY];
 static size_t minute_lengths[INPUTS];
-static int32_t fields[6][INPUTS][17];
+static int32_t fields[FORMATS][INPUTS][17];
 static uint32_t sheet[DAY];
 static unsigned long refused, sum;
 
@@ -49,6 +51,17 @@ static double run_read(const struct side *side, int format)
     for (size_t i = 0; i < INPUTS; i++) {
         refused += side->read((uint8_t)format, strings[format][i], length_of(format), out, 17) != 0;
         sum += (unsigned long)out[6];
+    }
+    return INPUTS;
+}
+
+static double run_read_trimble(const struct side *side, int unused)
+{
+    int32_t out[15];
+    (void)unused;
+    for (size_t i = 0; i < INPUTS; i++) {
+        refused += side->read_trimble(strings[TRIMBLE][i], length_of(TRIMBLE), out, 15) != 0;
+        sum += (unsigned long)out[14];
     }
     return INPUTS;
 }
@@ -140,6 +153,7 @@ static const struct row {
     { "read a PZF string", "read", run_read, PZF },
     { "read a GPS string", "read", run_read, GPS },
     { "read an ELV string", "read", run_read, ELV },
+    { "read a Trimble string", "read_trimble", run_read_trimble, 0 },
     { "read a minute", "read_minute", run_read_minute, 0 },
     { "Unix time", "unix_time", run_unix_time, 0 },
     { "write a standard string", "write", run_write, STANDARD },
@@ -173,6 +187,7 @@ static void make_inputs(void)
             make_fields(format, fields[format][i]);
         for (int format = STANDARD; format <= ELV; format++)
             make_string(format, strings[format][i]);
+        make_string(TRIMBLE, strings[TRIMBLE][i]);
         minute_lengths[i] = make_minute(minutes[i]);
     }
     for (size_t i = 0; i < LINE;)

@@ -46,6 +46,28 @@ const char *by_name_string(const uint8_t *s, size_t n)
     return same_time(&t, fields) ? NULL : "a string by name has other fields";
 }
 
+const char *by_name_trimble(const uint8_t *s, size_t n)
+{
+    struct radio_clock_time t, t_before;
+    int32_t fields[15], milliseconds = -5;
+    int64_t time = -4, said = 0;
+    size_t place = 0;
+    uint8_t error = reference_read_trimble(REFERENCE_FIRST_YEAR, s, n, fields, 15, &place);
+    memset(&t, 1, sizeof t);
+    memcpy(&t_before, &t, sizeof t);
+    if (radio_clock_read_trimble_string(s, n, &t, &milliseconds, &time) != error)
+        return "a Trimble string by name has another answer";
+    if (error != 0)
+        return time == -4 && milliseconds == -5 && same_bytes(&t, &t_before, sizeof t)
+                   ? NULL
+                   : "a refused Trimble string by name changes something";
+    if (reference_unix_time(fields, 14, &said) != 0 || time != said)
+        return "a Trimble string by name has another Unix time";
+    if (milliseconds != fields[14])
+        return "a Trimble string by name has other milliseconds";
+    return same_time(&t, fields) ? NULL : "a Trimble string by name has other fields";
+}
+
 const char *by_name_minute(const uint8_t *marks, size_t n)
 {
     struct radio_clock_time t, t_before;

@@ -9,6 +9,9 @@
 /* A string told and read by name, whatever its length. */
 const char *by_name_string(const uint8_t *s, size_t n);
 
+/* A Trimble string, whatever its length. */
+const char *by_name_trimble(const uint8_t *s, size_t n);
+
 /* The n marks of a minute. */
 const char *by_name_minute(const uint8_t *marks, size_t n);
 

@@ -1,6 +1,6 @@
 /* compare [-n CASES] [-s SEED] [-c CASE]: compares the library with the reference, in answers, in all lent memory and
  * in the memory around it, and the inline functions of the header with both. Prints the seed and how often each answer
- * came. Fails at the first difference, whose case -c runs alone, and if one of the refusal numbers 1 to 23 never
+ * came. Fails at the first difference, whose case -c runs alone, and if one of the refusal numbers 1 to 25 never
  * came. */
 #define _POSIX_C_SOURCE 200809L
 #include <inttypes.h>
@@ -19,10 +19,11 @@
 #include "radio_clock.h"
 #include "reference.h"
 
-enum { LENT = 4, SMALL = 4000, ANSWERS = 24 };
+enum { LENT = 4, SMALL = 4000, ANSWERS = 26 };
 enum function {
     KIND,
     READ,
+    READ_TRIMBLE,
     WRITE,
     READ_MINUTE,
     WRITE_MINUTE,
@@ -35,9 +36,18 @@ enum function {
     FUNCTIONS
 };
 
-static const char *const names[FUNCTIONS] = { "kind",          "read",         "write",      "read_minute",
-                                              "write_minute",  "unix_time",    "outcome_at", "outcome_unix_time",
-                                              "fill_outcomes", "correct_mark", "feed" };
+static const char *const names[FUNCTIONS] = { "kind",
+                                              "read",
+                                              "read_trimble",
+                                              "write",
+                                              "read_minute",
+                                              "write_minute",
+                                              "unix_time",
+                                              "outcome_at",
+                                              "outcome_unix_time",
+                                              "fill_outcomes",
+                                              "correct_mark",
+                                              "feed" };
 
 static struct lent small[LENT], large_marks, large_outcomes;
 static uint64_t seed, number;
@@ -155,6 +165,18 @@ static void compare_read(uint8_t kind, const uint8_t *s, size_t n, size_t room)
                                    (int32_t *)small[1].reference, room, &place));
     compare_lent(READ, (const struct lent *[]){ &small[0], &small[1] }, 2);
     compare_by_name(READ, by_name_string(small[0].library, n));
+}
+
+static void compare_read_trimble(const uint8_t *s, size_t n, size_t room)
+{
+    size_t place = 0;
+    lend_bytes(&small[0], s, n);
+    lend_any(&small[1], 4 * room);
+    compare_answers(READ_TRIMBLE, radio_clock_read_trimble(small[0].library, n, (int32_t *)small[1].library, room),
+                    reference_read_trimble(REFERENCE_FIRST_YEAR, small[0].reference, n, (int32_t *)small[1].reference,
+                                           room, &place));
+    compare_lent(READ_TRIMBLE, (const struct lent *[]){ &small[0], &small[1] }, 2);
+    compare_by_name(READ_TRIMBLE, by_name_trimble(small[0].library, n));
 }
 
 static void compare_write(uint8_t kind, const int32_t *fields, size_t count, size_t room)
@@ -372,6 +394,46 @@ static void try_string(void)
         compare_read(kind, s, n, room_for(fields_of(format)));
 }
 
+/* The sum of a Trimble string in small letters. */
+static void make_sum_small(uint8_t *s)
+{
+    for (size_t i = 34; i < 36; i++)
+        s[i] |= s[i] >= 'A' && s[i] <= 'F' ? 32 : 0;
+}
+
+static void try_trimble(void)
+{
+    uint8_t s[100];
+    size_t n = make_string(TRIMBLE, s);
+    switch (below(12)) {
+    case 0: /* a wrong length */
+        memcpy(s + n, s, n);
+        n = one_in(2) ? below(n) : n + 1 + below(n);
+        break;
+    case 1: /* random bytes */
+        for (size_t i = 0; i < n; i++)
+            s[i] = (uint8_t)any_number();
+        break;
+    case 2: /* random digits */
+        for (size_t i = 4; i < 26; i++)
+            s[i] = (uint8_t)('0' + below(10));
+        mend_sum(s);
+        break;
+    case 3:
+        damage_string(TRIMBLE, s, n, below(2));
+        make_sum_small(s);
+        break;
+    case 4: /* the string of a kind, as long as it is or cut to the Trimble's length */
+        n = make_string((int)below(4), s);
+        n = n > length_of(TRIMBLE) && one_in(2) ? length_of(TRIMBLE) : n;
+        break;
+    default:
+        damage_string(TRIMBLE, s, n, below(4));
+        break;
+    }
+    compare_read_trimble(s, n, room_for(fields_of(TRIMBLE)));
+}
+
 static void try_fields(void)
 {
     int32_t fields[40];
@@ -548,8 +610,10 @@ static void try_case(uint64_t case_number)
     for (int i = 0; i < LENT; i++)
         lend(&small[i], 0, true);
     size_t choice = below(100);
-    if (choice < 42)
+    if (choice < 32)
         try_string();
+    else if (choice < 42)
+        try_trimble();
     else if (choice < 60)
         try_fields();
     else if (choice < 68)
@@ -583,6 +647,40 @@ static void sweep_strings(void)
                 compare_read((uint8_t)format, s, n, fields_of(format));
             }
             s[i] = kept;
+        }
+    }
+}
+
+/* Every byte at every place of a Trimble string, with the sum as it was and with the sum of the new bytes. The sum as
+ * it was has a letter, so that the small one is among the bytes. */
+static void sweep_trimble(void)
+{
+    uint8_t s[37], mended[37];
+    do
+        make_string(TRIMBLE, s);
+    while (s[35] < 'A');
+    for (size_t i = 0; i < sizeof s; i++) {
+        uint8_t kept = s[i];
+        for (int byte = 0; byte < 256; byte++) {
+            s[i] = (uint8_t)byte;
+            compare_read_trimble(s, sizeof s, 15);
+            memcpy(mended, s, sizeof s);
+            mend_sum(mended);
+            compare_read_trimble(mended, sizeof mended, 15);
+        }
+        s[i] = kept;
+    }
+}
+
+/* Every four digits of year, on 28 and 29 February. */
+static void sweep_years(void)
+{
+    for (int32_t year = 0; year <= 9999; year++) {
+        for (int32_t day = 28; day <= 29; day++) {
+            int32_t fields[15] = { year, 2, day };
+            uint8_t s[37];
+            put_trimble(fields, s);
+            compare_read_trimble(s, sizeof s, 15);
         }
     }
 }
@@ -665,6 +763,8 @@ static void sweep(void)
     inputs_seed(seed, number);
     sweep_outcomes();
     sweep_strings();
+    sweep_trimble();
+    sweep_years();
     sweep_minutes();
     sweep_days();
     sweep_lengths();

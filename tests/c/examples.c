@@ -1,4 +1,5 @@
-/* The examples of document 01 by their numbers there, with what it says of them. */
+/* The examples of document 01 by their numbers there, with what it says of them; and strings of a Trimble, with what
+ * document 02 says of each. */
 #include "examples.h"
 
 #include <stdint.h>
@@ -12,6 +13,7 @@
 struct api {
     const char *name;
     uint8_t (*read)(uint8_t, const uint8_t *, size_t, int32_t *, size_t);
+    uint8_t (*read_trimble)(const uint8_t *, size_t, int32_t *, size_t);
     uint8_t (*read_minute)(const uint8_t *, size_t, int32_t *, size_t);
     uint8_t (*unix_time)(const int32_t *, size_t, int64_t *);
     uint8_t (*fill_outcomes)(const uint8_t *, size_t, uint32_t *, size_t);
@@ -24,6 +26,12 @@ static uint8_t read_string(uint8_t kind, const uint8_t *s, size_t n, int32_t *fi
 {
     size_t place = 0;
     return reference_read(kind, REFERENCE_SENDS_U, REFERENCE_FIRST_YEAR, s, n, fields, room, &place);
+}
+
+static uint8_t read_trimble(const uint8_t *s, size_t n, int32_t *fields, size_t room)
+{
+    size_t place = 0;
+    return reference_read_trimble(REFERENCE_FIRST_YEAR, s, n, fields, room, &place);
 }
 
 static uint8_t read_minute(const uint8_t *marks, size_t n, int32_t *fields, size_t room)
@@ -43,9 +51,9 @@ static uint8_t correct_mark(uint8_t *marks, size_t n, uint32_t *outcomes, size_t
 }
 
 static const struct api apis[] = {
-    { "library", radio_clock_read, radio_clock_read_minute, radio_clock_unix_time, radio_clock_fill_outcomes,
-      radio_clock_correct_mark },
-    { "reference", read_string, read_minute, reference_unix_time, fill_outcomes, correct_mark },
+    { "library", radio_clock_read, radio_clock_read_trimble, radio_clock_read_minute, radio_clock_unix_time,
+      radio_clock_fill_outcomes, radio_clock_correct_mark },
+    { "reference", read_string, read_trimble, read_minute, reference_unix_time, fill_outcomes, correct_mark },
 };
 
 static bool passed;
@@ -105,6 +113,54 @@ static void run_strings(const struct api *api)
     }
 }
 
+/* The sums were worked out by hand from that of the first string: a byte that changes changes it by its difference. */
+static void run_trimble(const struct api *api)
+{
+    static const struct {
+        const char *string;
+        uint8_t answer;
+        const char *what;
+    } examples[] = {
+        { ">RTM1439391230811200614007100000;*6E<", 0, "a Trimble string" },
+        { ">RTM1439391230811200614007100000;*6e<", 24, "a sum in small letters" },
+        { ">RTM1439391230811200614007100000;*7F<", 24, "the sum without ;*" },
+        { ">RTM1439391230811200614007000000;*6F<", 25, "v 0" },
+        { ">RTM1439391230811200614007000000;*6E<", 24, "v 0 and the sum of v 1" },
+        { ">RTM1439391230811200614007\26100000;*EE<", 25, "v 177, whose sum is above 127" },
+        { ">RTM143939123081120061400710000~;*20<", 0, "~ in rrrrr" },
+        { ">RTM143939123081120061400710000\177;*21<", 2, "127 in rrrrr" },
+        { ">RTM143939123081120061400710000 ;*7E<", 0, "a blank in rrrrr" },
+        { ">RTM143939123081120061400710000\037;*41<", 2, "31 in rrrrr" },
+        { ">RTM1439x9123081120061400710000\177;*xx<", 2, "127 in rrrrr, a letter in ss and no sum" },
+        { ">RTM1439x91230811200614007000000;*xx<", 3, "a letter in ss, v 0 and no sum" },
+        { ">RTM14393912308112006x4007100000;*27<", 3, "a letter in oo" },
+        { ">RTM1439391230811200699999100000;*65<", 0, "other digits in oo, d and nn" },
+        { ">RTM1439391230811196914007100000;*6D<", 5, "1969" },
+        { ">RTM1439391230811197014007100000;*65<", 0, "1970" },
+        { ">RTM1439391230811206914007100000;*67<", 0, "2069" },
+        { ">RTM1439391230811207014007100000;*6F<", 5, "2070" },
+        { ">RTM1439391230811000614007100000;*6C<", 5, "0006" },
+        { ">RTM1439391232902200014007100000;*69<", 0, "29.02.2000" },
+        { ">RTM1439391232902200114007100000;*68<", 5, "29.02.2001" },
+        { ">RTM1439391232902210014007100000;*68<", 5, "29.02.2100" },
+        { ">RTM2359601230811200614007100000;*60<", 0, "second 60 at 23:59" },
+        { ">RTM2259601230811200614007100000;*61<", 6, "second 60 at 22:59" },
+        { ">RTM143939123081120061400710000;*5E<", 1, "36 bytes" },
+    };
+    int32_t fields[15];
+    for (size_t i = 0; i < sizeof examples / sizeof examples[0]; i++) {
+        const uint8_t *s = (const uint8_t *)examples[i].string;
+        uint8_t answer = api->read_trimble(s, strlen(examples[i].string), fields, 15);
+        check(api, answer == examples[i].answer, examples[i].what);
+        if (i == 0)
+            check(api,
+                  fields[0] == 2006 && fields[1] == 11 && fields[2] == 8 && fields[3] == 3 && fields[4] == 14 &&
+                      fields[5] == 39 && fields[6] == 39 && fields[7] == 0 && fields[14] == 123,
+                  "a Trimble string's fields");
+    }
+    check(api, api->read(3, (const uint8_t *)examples[0].string, 37, fields, 15) == 1, "a Trimble string as ELV");
+}
+
 static void run_instants(const struct api *api)
 {
     static const int32_t p2[14] = { 2006, 11, 8, 3, 14, 39, 39, 0 }, first[14] = { 1970, 1, 1, 4, 0, 0, 0, 60 };
@@ -156,6 +212,7 @@ bool run_examples(void)
     passed = true;
     for (size_t i = 0; i < sizeof apis / sizeof apis[0]; i++) {
         run_strings(&apis[i]);
+        run_trimble(&apis[i]);
         run_instants(&apis[i]);
         run_marks(&apis[i]);
     }

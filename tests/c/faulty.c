@@ -58,6 +58,104 @@ uint8_t radio_clock_read(uint8_t kind, const uint8_t *s, size_t n, int32_t *fiel
     return error;
 }
 
+/* The sum that the bytes before a place have, in two digits. */
+static void put_sum(const uint8_t *s, size_t place, const char *digits, uint8_t *sum)
+{
+    unsigned all = 0;
+    for (size_t i = 0; i < place; i++)
+        all ^= s[i];
+    sum[0] = (uint8_t)digits[all / 16];
+    sum[1] = (uint8_t)digits[all % 16];
+}
+
+/* The string that the reference reads as a wrong reader reads this one: with the sum that is right if the wrong reader
+ * takes the one that stands there, and with none if it does not. */
+static void change_sum(uint8_t *s, bool taken)
+{
+    memcpy(s + 34, "??", 2);
+    if (taken)
+        put_sum(s, 34, "0123456789ABCDEF", s + 34);
+}
+
+static bool has_sum(const uint8_t *s, size_t place, const char *digits)
+{
+    uint8_t sum[2];
+    put_sum(s, place, digits, sum);
+    return memcmp(s + 34, sum, 2) == 0;
+}
+
+static bool is_one_of(uint8_t byte, const char *bytes) { return byte != 0 && strchr(bytes, byte) != NULL; }
+
+/* Mistakes that are made before the string is read. */
+static void mistake_trimble(uint8_t *s)
+{
+    if (fault() == 46) /* the sum without `;*` */
+        change_sum(s, has_sum(s, 32, "0123456789ABCDEF"));
+    if (fault() == 47 && has_sum(s, 34, "0123456789abcdef")) /* small letters taken */
+        change_sum(s, true);
+    if (fault() == 48) /* the sum with its own first digit */
+        change_sum(s, has_sum(s, 35, "0123456789ABCDEF"));
+    for (size_t i = 27; i < 32; i++)
+        if ((fault() == 49 && s[i] == 127) || (fault() == 50 && s[i] == 31) || (fault() == 51 && s[i] > 127)) {
+            bool right = has_sum(s, 34, "0123456789ABCDEF"); /* a byte of rrrrr that is not printable */
+            s[i] = ' ';
+            change_sum(s, right);
+        }
+}
+
+uint8_t radio_clock_read_trimble(const uint8_t *s, size_t n, int32_t *fields, size_t room)
+{
+    uint8_t copy[37];
+    size_t place = 0;
+    if (fault() == 52 && n > 37) /* what stands after 37 bytes passed over */
+        n = 37;
+    if (fault() == 53 && n == 37) /* a byte past the string */
+        (void)*(const volatile uint8_t *)(s + n);
+    if (n == sizeof copy) {
+        memcpy(copy, s, n);
+        mistake_trimble(copy);
+        s = copy;
+    }
+    uint8_t error = reference_read_trimble(REFERENCE_FIRST_YEAR, s, n, fields, room, &place);
+    if (fault() == 54 && error == 24 && s[26] != '1') /* v before the sum */
+        return 25;
+    if (fault() == 55 && error == 2 && place >= 27 && place < 32) { /* rrrrr's 2 after 3 */
+        for (size_t i = 4; i < 26; i++)
+            if (s[i] < '0' || s[i] > '9')
+                return 3;
+    }
+    if (fault() == 56 && error == 0) /* milliseconds dropped */
+        fields[14] = 0;
+    if (fault() == 57 && error == 5) { /* the year by its last two digits */
+        memcpy(copy + 17, s[19] < '7' ? "20" : "19", 2);
+        change_sum(copy, true);
+        return reference_read_trimble(REFERENCE_FIRST_YEAR, copy, n, fields, room, &place);
+    }
+    if (fault() == 58 && error == 25 && is_one_of(s[26], "23456789")) /* any digit above 0 taken for v */
+        return 0;
+    if (fault() == 59 && error == 3 && place >= 21) /* no digits asked of oo, d and nn */
+        return 0;
+    if (fault() == 60 && error == 0 && memcmp(s + 21, "99", 2) == 0) /* oo taken for something */
+        return 8;
+    if (fault() == 61 && error == 0) /* the weekday of the day before */
+        fields[3] = fields[3] == 1 ? 7 : fields[3] - 1;
+    if (fault() == 62 && error == 6 && memcmp(s + 6, "5960", 4) == 0) /* second 60 in any hour's last minute */
+        return 0;
+    if (fault() == 63 && error == 5 && memcmp(s + 17, "2070", 4) == 0) /* one year too many */
+        return 0;
+    if (fault() == 64 && error == 5 && memcmp(s + 17, "1969", 4) == 0) /* one year too early */
+        return 0;
+    if (fault() == 65 && error == 25) /* 5 before 25 */
+        return memcmp(s + 13, "00", 2) == 0 ? 5 : 25;
+    if (fault() == 66 && error == 20 && room == 14) /* room for a clock time alone */
+        return 0;
+    if (fault() == 67 && error == 0 && room > 15) /* a field after the last */
+        fields[15] = 0;
+    if (fault() == 68 && error == 0) /* the digits of the milliseconds from the last to the first */
+        fields[14] = (s[12] - '0') * 100 + (s[11] - '0') * 10 + s[10] - '0';
+    return error;
+}
+
 uint8_t radio_clock_write(uint8_t kind, const int32_t *fields, size_t count, uint8_t *out, size_t room, size_t *written)
 {
     int32_t copy[40];

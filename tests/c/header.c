@@ -55,6 +55,8 @@ static const struct {
     IS(ERROR_PLACE, 21),
     IS(ERROR_NEW_MARK, 22),
     IS(ERROR_UNREPRESENTABLE, 23),
+    IS(ERROR_CHECKSUM, 24),
+    IS(ERROR_VALIDITY_FLAG, 25),
     IS(YEAR, 0),
     IS(MONTH, 1),
     IS(DAY, 2),
@@ -74,6 +76,8 @@ static const struct {
     IS(LONGITUDE, 15),
     IS(HEIGHT, 16),
     IS(GPS_FIELDS, 17),
+    IS(MILLISECONDS, 14),
+    IS(TRIMBLE_FIELDS, 15),
     IS(FIRST_MARKS, 14),
     IS(SIXTY_MARKS, 15),
     IS(MINUTE_FIELDS, 16),
@@ -117,6 +121,7 @@ static void check_types(void)
     typedef const int32_t *numbers;
     typedef uint8_t (*kind)(bytes, size_t, uint8_t *);
     typedef uint8_t (*read)(uint8_t, bytes, size_t, int32_t *, size_t);
+    typedef uint8_t (*read_trimble)(bytes, size_t, int32_t *, size_t);
     typedef uint8_t (*write)(uint8_t, numbers, size_t, uint8_t *, size_t, size_t *);
     typedef uint8_t (*read_minute)(bytes, size_t, int32_t *, size_t);
     typedef uint8_t (*write_minute)(numbers, size_t, uint8_t *, size_t, size_t *);
@@ -130,6 +135,7 @@ static void check_types(void)
     typedef void (*fields_of)(struct radio_clock_time, int32_t *);
     typedef uint8_t (*read_string)(bytes, size_t, uint8_t *, struct radio_clock_time *, struct radio_clock_position *,
                                    int64_t *);
+    typedef uint8_t (*read_trimble_string)(bytes, size_t, struct radio_clock_time *, int32_t *, int64_t *);
     typedef uint8_t (*read_marks)(bytes, size_t, struct radio_clock_time *, struct radio_clock_minute_detail *,
                                   int64_t *);
     typedef bool (*flag_of)(uint32_t);
@@ -139,6 +145,7 @@ static void check_types(void)
     typedef const char *(*error_text)(uint8_t);
     TYPE_IS(kind, radio_clock_kind);
     TYPE_IS(read, radio_clock_read);
+    TYPE_IS(read_trimble, radio_clock_read_trimble);
     TYPE_IS(write, radio_clock_write);
     TYPE_IS(read_minute, radio_clock_read_minute);
     TYPE_IS(write_minute, radio_clock_write_minute);
@@ -151,6 +158,7 @@ static void check_types(void)
     TYPE_IS(time_of, radio_clock_time_of);
     TYPE_IS(fields_of, radio_clock_fields_of);
     TYPE_IS(read_string, radio_clock_read_string);
+    TYPE_IS(read_trimble_string, radio_clock_read_trimble_string);
     TYPE_IS(read_marks, radio_clock_read_marks);
     TYPE_IS(flag_of, radio_clock_outcome_accepted);
     TYPE_IS(minutes_of, radio_clock_outcome_minutes);
@@ -282,6 +290,53 @@ static void check_strings(void)
     }
 }
 
+/* Trimble strings with other numbers in each place, and one for each refusal. */
+
+#define TRIMBLE(error, milliseconds, text) { error, milliseconds, text, sizeof text - 1 }
+static const struct {
+    uint8_t error;
+    int32_t milliseconds;
+    const char *text;
+    size_t length;
+} trimble_strings[] = {
+    TRIMBLE(0, 123, ">RTM1439391230811200614007100000;*6E<"),
+    TRIMBLE(0, 987, ">RTM235960987311220691805612 <>~;*30<"),
+    TRIMBLE(1, 0, ">RTM143939123081120061400710000;*5E<"),
+    TRIMBLE(2, 0, ">RTM1439391230811200614007100000;+6F<"),
+    TRIMBLE(3, 0, ">RTM14393912x0811200614007100000;*25<"),
+    TRIMBLE(24, 0, ">RTM1439391230811200614007100000;*6e<"),
+    TRIMBLE(25, 0, ">RTM1439391230811200614007000000;*6F<"),
+    TRIMBLE(5, 0, ">RTM1439391230811207014007100000;*6F<"),
+    TRIMBLE(6, 0, ">RTM2439391230811200614007100000;*6D<"),
+};
+
+static void check_trimble(void)
+{
+    for (size_t i = 0; i < sizeof trimble_strings / sizeof trimble_strings[0]; i++) {
+        const uint8_t *s = (const uint8_t *)trimble_strings[i].text;
+        size_t n = trimble_strings[i].length;
+        int32_t fields[15], milliseconds = -5;
+        int64_t said = 0, time = -77;
+        struct radio_clock_time t, noise;
+        memset(&noise, 1, sizeof noise);
+        t = noise;
+        uint8_t error = radio_clock_read_trimble(s, n, fields, 15);
+        check(error == trimble_strings[i].error, "the library gives another error for Trimble string", (long)i);
+        check(radio_clock_read_trimble_string(s, n, &t, &milliseconds, &time) == error,
+              "by name another error for Trimble string", (long)i);
+        if (error != 0) {
+            check(memcmp(&t, &noise, sizeof t) == 0 && milliseconds == -5 && time == -77,
+                  "something changed for refused Trimble string", (long)i);
+            continue;
+        }
+        check(radio_clock_unix_time(fields, 15, &said) == 0 && time == said, "the Unix time of Trimble string",
+              (long)i);
+        check(milliseconds == fields[14] && milliseconds == trimble_strings[i].milliseconds,
+              "the milliseconds of Trimble string", (long)i);
+        check_time(&t, fields, (long)i);
+    }
+}
+
 /* Minutes of 59 and of 60 marks, and one that is refused. */
 static void check_minutes(void)
 {
@@ -387,12 +442,14 @@ static const char *const texts[] = {
     "place at or past the end of the recording",
     "new mark above 3",
     "nothing accepted in this format reads so",
+    "the check sum is wrong, or not two capital hexadecimal digits",
+    "the validity flag is not 1",
 };
 
 static void check_texts(void)
 {
     for (int error = 0; error < 256; error++) {
-        const char *text = error < 24 ? texts[error] : "no such error number";
+        const char *text = error < 26 ? texts[error] : "no such error number";
         check(strcmp(radio_clock_error_text((uint8_t)error), text) == 0, "the text of error", error);
     }
 }
@@ -404,6 +461,7 @@ int main(void)
     check_types();
     check_names();
     check_strings();
+    check_trimble();
     check_minutes();
     check_outcomes();
     check_framer();

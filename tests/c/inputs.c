@@ -1,6 +1,8 @@
-/* Random inputs. Strings and minutes that are valid are made from random fields by the reference's writer. */
+/* Random inputs. Strings and minutes that are valid are made from random fields by the reference's writer; Trimble
+ * strings, which it does not write, are made here and read by it. */
 #include "inputs.h"
 
+#include <inttypes.h>
 #include <stdio.h>
 #include <stdlib.h>
 #include <string.h>
@@ -39,9 +41,17 @@ static uint8_t any_byte(void) { return (uint8_t)any_number(); }
 
 static char one_of(const char *letters) { return letters[below(strlen(letters))]; }
 
-size_t fields_of(int format) { return format == GPS ? 17 : format == MINUTE ? 16 : 14; }
+size_t fields_of(int format)
+{
+    static const uint8_t counts[FORMATS] = { [GPS] = 17, [MINUTE] = 16, [TRIMBLE] = 15 };
+    return counts[format] != 0 ? counts[format] : 14;
+}
 
-size_t length_of(int format) { return format == GPS ? 66 : format == MINUTE ? 60 : format == ELV ? 21 : 32; }
+size_t length_of(int format)
+{
+    static const uint8_t lengths[FORMATS] = { [GPS] = 66, [ELV] = 21, [MINUTE] = 60, [TRIMBLE] = 37 };
+    return lengths[format] != 0 ? lengths[format] : 32;
+}
 
 static int32_t days_in(int32_t year, int32_t month)
 {
@@ -70,6 +80,9 @@ static void make_zone(int format, int32_t *f)
         f[7] = 0;
     } else if (format == GPS || format == ANY) {
         f[7] = one_in(4) ? 0 : one_in(4) ? between(-14, 14) * 60 : between(-840, 840);
+    } else if (format == TRIMBLE) {
+        f[7] = 0;
+        f[10] = 0;
     }
 }
 
@@ -78,12 +91,12 @@ void make_fields(int format, int32_t *f)
     f[0] = one_in(4) ? between(1996, 2004) : between(1970, 2069);
     f[1] = one_in(6) ? 2 : between(1, 12);
     f[2] = between(1, days_in(f[0], f[1]));
-    f[3] = format == ELV ? weekday_of(f[0], f[1], f[2]) : between(1, 7);
+    f[3] = format == ELV || format == TRIMBLE ? weekday_of(f[0], f[1], f[2]) : between(1, 7);
     f[4] = between(0, 23);
     f[5] = between(0, 59);
     f[6] = between(0, 59);
     for (int i = 8; i < 14; i++)
-        f[i] = one_in(3);
+        f[i] = format != TRIMBLE && one_in(3);
     make_zone(format, f);
     if (format == STANDARD || format == ELV)
         f[13] = 0;
@@ -113,6 +126,8 @@ void make_fields(int format, int32_t *f)
         f[14] = one_in(6) ? between(-9, 9) * 100000 : between(-900000, 900000);
         f[15] = one_in(6) ? between(-18, 18) * 100000 : between(-1800000, 1800000);
         f[16] = one_in(3) ? between(0, 12) : between(0, 9999);
+    } else if (format == TRIMBLE) {
+        f[14] = between(0, 999);
     }
 }
 
@@ -156,11 +171,49 @@ static void insist(uint8_t error, const char *what)
     }
 }
 
+void mend_sum(uint8_t *s)
+{
+    static const char digits[] = "0123456789ABCDEF";
+    unsigned sum = 0;
+    for (size_t i = 0; i < 34; i++)
+        sum ^= s[i];
+    s[34] = (uint8_t)digits[sum / 16];
+    s[35] = (uint8_t)digits[sum % 16];
+}
+
+void put_trimble(const int32_t *f, uint8_t *s)
+{
+    char text[160];
+    snprintf(text, sizeof text,
+             ">RTM%02" PRId32 "%02" PRId32 "%02" PRId32 "%03" PRId32 "%02" PRId32 "%02" PRId32 "%04" PRId32
+             "00000100000;*xx<",
+             f[4], f[5], f[6], f[14], f[2], f[1], f[0]);
+    memcpy(s, text, 37);
+    mend_sum(s);
+}
+
+/* Digits that are ignored, and bytes of rrrrr among which are those that other places have. */
+static size_t make_trimble(const int32_t *f, uint8_t *s)
+{
+    int32_t fields[15];
+    size_t place = 0;
+    put_trimble(f, s);
+    for (size_t i = 21; i < 26; i++)
+        s[i] = (uint8_t)('0' + below(10));
+    for (size_t i = 27; i < 32; i++)
+        s[i] = one_in(4) ? (uint8_t)one_of("<>;*1 ~") : (uint8_t)between(32, 126);
+    mend_sum(s);
+    insist(reference_read_trimble(REFERENCE_FIRST_YEAR, s, 37, fields, 15, &place), "Trimble string");
+    return 37;
+}
+
 size_t make_string(int format, uint8_t *s)
 {
     int32_t f[17];
     size_t n = 0;
     make_fields(format, f);
+    if (format == TRIMBLE)
+        return make_trimble(f, s);
     insist(reference_write((uint8_t)format, REFERENCE_SENDS_U, REFERENCE_FIRST_YEAR, f, fields_of(format), s, 66, &n),
            "string");
     return n;
@@ -175,10 +228,21 @@ size_t make_minute(uint8_t *marks)
     return n;
 }
 
+/* A place of a string, more often one with rules of its own. */
+static size_t any_place(int format, size_t n)
+{
+    if (format == GPS && n == 66 && one_in(2))
+        return one_in(3) ? 24 + below(15) : 41 + below(23);
+    if (format == TRIMBLE && n == 37 && one_in(3))
+        return 26 + below(10);
+    return below(n);
+}
+
 void damage_string(int format, uint8_t *s, size_t n, size_t places)
 {
+    bool mend = format == TRIMBLE && n == 37 && !one_in(4);
     for (; places > 0 && n > 0; places--) {
-        size_t i = format == GPS && n == 66 && one_in(2) ? (one_in(3) ? 24 + below(15) : 41 + below(23)) : below(n);
+        size_t i = any_place(format, n);
         switch (below(6)) {
         case 0:
             s[i] = any_byte();
@@ -187,7 +251,7 @@ void damage_string(int format, uint8_t *s, size_t n, size_t places)
             s[i] ^= (uint8_t)(1u << below(8));
             break;
         case 2:
-            s[i] = (uint8_t)one_of("0123456789 #*USA!RL.:;+-NSEWmDT\002\003\r/");
+            s[i] = (uint8_t)one_of("0123456789 #*USA!RL.:;+-NSEWmDT\002\003\r/<>BCFabf");
             break;
         case 3:
             s[i] = s[below(n)];
@@ -202,6 +266,8 @@ void damage_string(int format, uint8_t *s, size_t n, size_t places)
             break;
         }
     }
+    if (mend)
+        mend_sum(s);
 }
 
 static uint8_t any_mark(void) { return one_in(3) ? any_byte() : (uint8_t)(2 + below(2)); }

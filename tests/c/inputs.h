@@ -6,7 +6,7 @@
 #include <stddef.h>
 #include <stdint.h>
 
-enum { STANDARD, PZF, GPS, ELV, MINUTE, ANY, FORMATS };
+enum { STANDARD, PZF, GPS, ELV, MINUTE, TRIMBLE, ANY, FORMATS };
 
 void inputs_seed(uint64_t seed, uint64_t number);
 uint64_t any_number(void);
@@ -17,7 +17,7 @@ bool one_in(size_t bound);
 size_t fields_of(int format);
 size_t length_of(int format);
 
-/* The fields of a reading that the format can represent; ANY is a valid reading that perhaps none can. */
+/* The fields of a reading that the format has; ANY is a valid reading that perhaps none has. */
 void make_fields(int format, int32_t *fields);
 
 /* Changes some of the fields: neighbours, numbers that agree in their low bits, limits, noise. */
@@ -27,7 +27,13 @@ void spoil_fields(int32_t *fields, size_t count);
 size_t make_string(int format, uint8_t *s);
 size_t make_minute(uint8_t *marks);
 
-/* Changes as many places as said, to bytes that are likely to matter. */
+/* The Trimble string with a clock time and milliseconds, with 0 in oo, d, nn and rrrrr; and the sum that the 37 bytes
+ * of a Trimble string have, put in its place. */
+void put_trimble(const int32_t *fields, uint8_t *s);
+void mend_sum(uint8_t *s);
+
+/* Changes as many places as said, to bytes that are likely to matter. Most Trimble strings then have the sum of their
+ * new bytes, so that what is checked after the sum is reached. */
 void damage_string(int format, uint8_t *s, size_t n, size_t places);
 void damage_minute(uint8_t *marks, size_t n, size_t places);
 

@@ -1,5 +1,5 @@
-/* Document 01 in plain C, to be read beside the paper: each rule stands by the sentence that it follows, in quotation
- * marks, and nothing is done for speed. */
+/* Documents 01 and 02 in plain C, to be read beside the papers: each rule stands by the sentence that it follows, in
+ * quotation marks, and nothing is done for speed. Of document 02 there is the Trimble's string (T-01). */
 #include "reference.h"
 
 #include <assert.h>
@@ -32,6 +32,9 @@ enum {
     LONGITUDE,
     HEIGHT,
     GPS_FIELDS,
+
+    MILLISECONDS = TIME_FIELDS,
+    TRIMBLE_FIELDS,
 
     MARKS_1_TO_14 = TIME_FIELDS,
     SIXTY_MARKS,
@@ -134,8 +137,8 @@ uint8_t reference_unix_time(const int32_t *fields, size_t count, int64_t *time)
 
 /* Reading strings. "Order for text: 1, 2, 3, 4, 8, 9, 5, 6, 7." */
 
-/* A layout has a byte for each place of a string: `0` in a digit place, `?` where a flag, a sign or a position stands,
- * else the fixed byte itself. "STX is 2, ETX is 3." */
+/* A layout has a byte for each place of a string: `0` in a digit place, `r` in a place of rrrrr, `?` where a flag, a
+ * sign, a position or a sum stands, else the fixed byte itself. "STX is 2, ETX is 3." */
 
 /* "`STX D:dd.mm.yy;T:w;U:hh.mm.ss;uvxy ETX` (the blanks beside STX and ETX are only for print)" */
 static const char standard_layout[] = "\002D:00.00.00;T:0;U:00.00.00;????\003";
@@ -151,6 +154,11 @@ static const char gps_layout[] = "\00200.00.00; 0; 00:00:00; ?00:00; ???????; ??
 /* "`YY-MM-DD-HH-MM-SS-FF` and CR" */
 static const char elv_layout[] = "00-00-00-00-00-00-00\r";
 
+/* "`>RTM`, hh 4, mm 6, ss 8, ddd 10 (milliseconds), DD 13, MM 15, YYYY 17, oo 21, d 23, nn 24, v 26, rrrrr 27, `;*` 32,
+ * xx 34, `<` 36. All digits but v, xx and rrrrr" (02, T-01) */
+static const char trimble_layout[] = ">RTM" "00" "00" "00" "000" "00" "00" "0000" "00" "0" "00" "?" "rrrrr" ";*" "??"
+                                     "<";
+
 /* A refusal number, 0 for none, and a place in the string. */
 struct refusal {
     uint8_t number;
@@ -163,6 +171,19 @@ static struct refusal accepted(void) { return refused_at(0, 0); }
 
 static bool is_digit(uint8_t byte) { return '0' <= byte && byte <= '9'; }
 
+/* "rrrrr is any bytes from 32 to 126 (others give 2)" (02, T-01) */
+static bool may_be_r(uint8_t byte) { return 32 <= byte && byte <= 126; }
+
+/* Whether a byte is the fixed one, or one that rrrrr may have. Other places have their own numbers. */
+static bool fits_fixed(char place, uint8_t byte)
+{
+    if (place == '0' || place == '?')
+        return true;
+    if (place == 'r')
+        return may_be_r(byte);
+    return byte == (uint8_t)place;
+}
+
 static struct refusal check_layout(const char *layout, const uint8_t *s, size_t n)
 {
     /* 1: "string length wrong for its kind" */
@@ -170,7 +191,7 @@ static struct refusal check_layout(const char *layout, const uint8_t *s, size_t 
         return refused(1);
     /* 2: "a fixed byte differs" */
     for (size_t i = 0; i < n; i++)
-        if (layout[i] != '0' && layout[i] != '?' && s[i] != (uint8_t)layout[i])
+        if (!fits_fixed(layout[i], s[i]))
             return refused_at(2, i);
     /* 3: "no digit in a digit place" */
     for (size_t i = 0; i < n; i++)
@@ -393,6 +414,48 @@ static struct refusal read_elv(int32_t first_year, const uint8_t *s, size_t n, i
     return check_clock(r, false);
 }
 
+/* "xx is two capital hex digits of the exclusive or of places 0 to 33." (02, T-01) */
+static bool has_its_sum(const uint8_t *s)
+{
+    static const char digits[] = "0123456789ABCDEF";
+    uint8_t sum = 0;
+    for (size_t i = 0; i <= 33; i++)
+        sum ^= s[i];
+    return s[34] == digits[sum / 16] && s[35] == digits[sum % 16];
+}
+
+/* "Refusals: 24, the sum is wrong or no hex, after 3; 25, v is not `1`, after 24." (02, T-01) */
+static struct refusal read_trimble(int32_t first_year, const uint8_t *s, size_t n, int32_t *r)
+{
+    struct refusal refusal = check_layout(trimble_layout, s, n);
+    if (refusal.number != 0)
+        return refusal;
+    if (!has_its_sum(s))
+        return refused(24);
+    if (s[26] != '1')
+        return refused(25);
+
+    /* "it, oo, d and nn are ignored. Offset is 0, no flags; weekday is worked out" */
+    r[HOUR] = number(s + 4, 2);
+    r[MINUTE] = number(s + 6, 2);
+    r[SECOND] = number(s + 8, 2);
+    r[DAY] = number(s + 13, 2);
+    r[MONTH] = number(s + 15, 2);
+    r[YEAR] = number(s + 17, 4);
+    r[OFFSET] = 0;
+    for (int flag = UNSYNCHRONISED; flag <= ANTENNA; flag++)
+        r[flag] = 0;
+    r[WEEKDAY] = weekday_of(r[YEAR], r[MONTH], r[DAY]);
+
+    /* "The milliseconds are handed over beside the reading." */
+    r[MILLISECONDS] = number(s + 10, 3);
+
+    /* "years 1970 to 2069, else 5" */
+    if (r[YEAR] < first_year || r[YEAR] > first_year + 99)
+        return refused(5);
+    return check_clock(r, false);
+}
+
 /* "66 long is GPS; 32 long is standard if place 1 holds `D`, else PZF; 21 long is ELV; any other length is refused with
  * 1." */
 uint8_t reference_kind(const uint8_t *s, size_t n, uint8_t *kind)
@@ -447,6 +510,18 @@ uint8_t reference_read(uint8_t kind, bool sends_u, int32_t first_year, const uin
     struct refusal refusal = read_kind(kind, sends_u, first_year, s, n, r);
     if (refusal.number == 0)
         refusal.number = fill_fields(r, fields_of(kind), fields, room);
+    if (refusal.number != 0)
+        *place = refusal.place;
+    return refusal.number;
+}
+
+uint8_t reference_read_trimble(int32_t first_year, const uint8_t *s, size_t n, int32_t *fields, size_t room,
+                               size_t *place)
+{
+    int32_t r[TRIMBLE_FIELDS];
+    struct refusal refusal = read_trimble(first_year, s, n, r);
+    if (refusal.number == 0)
+        refusal.number = fill_fields(r, TRIMBLE_FIELDS, fields, room);
     if (refusal.number != 0)
         *place = refusal.place;
     return refusal.number;

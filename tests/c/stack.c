@@ -15,6 +15,7 @@ enum function {
     NOTHING,
     KIND,
     READ,
+    READ_TRIMBLE,
     WRITE,
     READ_MINUTE,
     WRITE_MINUTE,
@@ -27,9 +28,19 @@ enum function {
     FUNCTIONS
 };
 
-static const char *const names[FUNCTIONS] = { "nothing",           "kind",          "read",         "write",
-                                              "read_minute",       "write_minute",  "unix_time",    "outcome_at",
-                                              "outcome_unix_time", "fill_outcomes", "correct_mark", "feed" };
+static const char *const names[FUNCTIONS] = { "nothing",
+                                              "kind",
+                                              "read",
+                                              "read_trimble",
+                                              "write",
+                                              "read_minute",
+                                              "write_minute",
+                                              "unix_time",
+                                              "outcome_at",
+                                              "outcome_unix_time",
+                                              "fill_outcomes",
+                                              "correct_mark",
+                                              "feed" };
 
 static uint8_t stack[STACK];
 static ucontext_t here, there;
@@ -52,6 +63,8 @@ static uint8_t call(void)
         return radio_clock_kind(bytes, length, &byte);
     case READ:
         return radio_clock_read(kind, bytes, length, fields, 40);
+    case READ_TRIMBLE:
+        return radio_clock_read_trimble(bytes, length, fields, 40);
     case WRITE:
         return radio_clock_write(kind, fields, count, out, sizeof out, &size);
     case READ_MINUTE:
@@ -107,6 +120,9 @@ static void make_inputs(void)
     if (function == KIND || function == READ) {
         length = make_string(format, bytes);
         damage_string(format, bytes, length, below(3));
+    } else if (function == READ_TRIMBLE) {
+        length = make_string(TRIMBLE, bytes);
+        damage_string(TRIMBLE, bytes, length, below(3));
     } else if (function == WRITE || function == UNIX_TIME) {
         make_fields(format, fields);
         if (one_in(3))

@@ -150,9 +150,10 @@ logger: $(C)/logger
 c-logger: $(C)/logger
 	python3 tests/logger.py $(C)/logger
 
-$(C)/samples: tests/c/samples.c tests/c/reference.c tests/c/reference.h
+SAMPLES = $(addprefix tests/c/,samples.c inputs.c reference.c)
+$(C)/samples: $(SAMPLES) $(HEADERS)
 	@mkdir -p $(C)
-	$(PLAIN) tests/c/samples.c tests/c/reference.c -o $@
+	$(PLAIN) $(SAMPLES) -o $@
 
 # Makes the collector's samples anew.
 samples: $(C)/samples

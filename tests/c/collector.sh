@@ -10,15 +10,26 @@ trap 'rm -rf "$work"' EXIT
 
 "$make_samples" "$work"
 cmp "$work/elv.bin" elv.bin
+cmp "$work/trimble.bin" trimble.bin
 cmp "$work/marks.bin" marks.bin
 
-"$collector" -e elv.bin -m marks.bin > "$work/out" 2> "$work/err"
+wrong_sum='the check sum is wrong, or not two capital hexadecimal digits'
+"$collector" -e elv.bin -t trimble.bin -m marks.bin > "$work/out" 2> "$work/err"
 diff collector.txt "$work/out"
-diff - "$work/err" << 'END'
+tail -n +2 "$work/out" | cut -c 1-23 | LC_ALL=C sort -c
+diff - "$work/err" << END
 collector: elv.bin: place 42: refused 6: no such time of day
+collector: trimble.bin: place 78: refused 24: $wrong_sum: found 6E, sent 6F
+collector: trimble.bin: place 117: refused 25: the validity flag is not 1
+collector: trimble.bin: place 156: refused 1: string length wrong for its kind
 collector: marks.bin: place 246: refused 12: a mark in the run is neither short nor long
-collector: 7 times, 2 refused
+collector: 10 times, 5 refused
 END
+
+# Without Trimble strings the columns are narrower, and the other lines are the same.
+"$collector" -e elv.bin -m marks.bin > "$work/out" 2> "$work/err"
+diff <(grep -v trimble collector.txt | tr -s ' ') <(tr -s ' ' < "$work/out")
+grep -qx '2016-10-30 00:59:58  2016-10-30 02:59:58 +02:00 --S!---  elv.bin' "$work/out"
 
 # The listing's two strings, a string cut short, an overlong one, a leap second after the second after it.
 {
@@ -55,9 +66,43 @@ collector: 1 times, 2 refused
 END
 "$collector" -s elv.bin 2>&1 > "$work/out" | grep -q 'elv.bin: has no STX in it, so no Meinberg string; -e reads'
 
+# Trimble strings: of equal seconds by milliseconds, whatever the order in the file; the poll's echo, a string that was
+# cut off by the next, and one that ends with the file are refused, noise between strings is passed over. A sum's bytes
+# that can't be printed are shown as numbers.
+{
+    printf '>QTM<>RTM1439399990811200614007100000;*67<noise<\003>RTM143939\n'
+    printf '>RTM1439390010811200614007100000;*6F<>RTM1439391230811200614007100000;*6e<>RTM1439391230811200614007100000;'
+    printf '*\0016<>RTM1439'
+} | "$collector" -t - > "$work/out" 2> "$work/err"
+diff - "$work/out" << 'END'
+UTC                      local                   zone   flags    file
+2006-11-08 14:39:39.001  2006-11-08 14:39:39.001 +00:00 -------  -
+2006-11-08 14:39:39.999  2006-11-08 14:39:39.999 +00:00 -------  -
+END
+diff - "$work/err" << END
+collector: -: place 0: refused 1: string length wrong for its kind
+collector: -: place 49: refused 1: string length wrong for its kind
+collector: -: place 97: refused 24: $wrong_sum: found 6E, sent 6e
+collector: -: place 134: refused 24: $wrong_sum: found 6E, sent \\x016
+collector: -: place 171: refused 1: string length wrong for its kind
+collector: 2 times, 5 refused
+END
+
+# A file named with an option that does not read it is told, with the option that does.
+told() {
+    "$collector" "$1" "$2" 2>&1 > "$work/out" | grep -qF "$3" || { echo "$1 $2: does not say: $3"; exit 1; }
+}
+told -t elv.bin 'elv.bin: has no > in it, so no Trimble string; -s reads Meinberg strings, -e ELV strings'
+told -t capture.bin 'capture.bin: has Meinberg strings in it, which -s reads; -t reads Trimble strings'
+told -e trimble.bin 'trimble.bin: has Trimble strings in it, which -t reads; -e reads ELV strings'
+told -s trimble.bin 'trimble.bin: has no STX in it, so no Meinberg string; -e reads ELV strings, -t Trimble strings'
+
 # Empty files, ELV strings with LF, and what is wrong with a call.
 : > "$work/empty"
-"$collector" -s "$work/empty" -e "$work/empty" -m "$work/empty" 2> "$work/err" | cmp - <(head -1 collector.txt)
+heading='UTC                  local               zone   flags    file'
+"$collector" -s "$work/empty" -e "$work/empty" -m "$work/empty" 2> "$work/err" | cmp - <(echo "$heading")
+"$collector" -t "$work/empty" 2> "$work/err" | cmp - <(head -1 collector.txt)
+grep -qx 'collector: 0 times, 0 refused' "$work/err"
 printf '06-11-08-14-39-39-00\r\n06-11-08-14-39-40-00\r\n06-11' | "$collector" -e - > "$work/out" 2> "$work/err"
 test "$(grep -c 2006 "$work/out")" = 2
 grep -q 'place 44: refused 1: string length wrong' "$work/err"

@@ -20,6 +20,7 @@ import tty
 
 import rules
 from string_vectors import GPS, NO_SUCH_HOUR, STANDARD, put, random_text
+from trimble_vectors import SAMPLE as TRIMBLE
 
 STX, ETX = 2, 3
 HEADING = b"time zone flags\n"
@@ -146,6 +147,7 @@ CASES = {
     "66 kept, then STX": framed(67)[:-1] + STANDARD,
     "21 bytes": framed(21) + b"\x0206-11-08-14-39-39-0\x03",
     "every other length": b"".join(framed(n) for n in range(2, 80)),
+    "a Trimble string, bare and between STX and ETX": TRIMBLE + b"\x02" + TRIMBLE[1:-1] + b"\x03",
     "every refusal": b"".join(REFUSED.values()),
     "leap second": LEAP + put(LEAP, 38, " ") + put(GPS, 38, "L"),
     "west": WEST,

@@ -64,7 +64,6 @@ collector: -: place 56: refused 1: string length wrong for its kind
 collector: -: has Meinberg strings in it, which -s reads; -e reads ELV strings
 collector: 1 times, 2 refused
 END
-"$collector" -s elv.bin 2>&1 > "$work/out" | grep -q 'elv.bin: has no STX in it, so no Meinberg string; -e reads'
 
 # Trimble strings: of equal seconds by milliseconds, whatever the order in the file; the poll's echo, a string that was
 # cut off by the next, and one that ends with the file are refused, noise between strings is passed over. A sum's bytes
@@ -90,8 +89,10 @@ END
 
 # A file named with an option that does not read it is told, with the option that does.
 told() {
-    "$collector" "$1" "$2" 2>&1 > "$work/out" | grep -qF "$3" || { echo "$1 $2: does not say: $3"; exit 1; }
+    "$collector" "$1" "$2" > "$work/out" 2> "$work/err"
+    grep -qF "$3" "$work/err" || { echo "$1 $2: does not say: $3"; exit 1; }
 }
+told -s elv.bin 'elv.bin: has no STX in it, so no Meinberg string; -e reads ELV strings, -t Trimble strings'
 told -t elv.bin 'elv.bin: has no > in it, so no Trimble string; -s reads Meinberg strings, -e ELV strings'
 told -t capture.bin 'capture.bin: has Meinberg strings in it, which -s reads; -t reads Trimble strings'
 told -e trimble.bin 'trimble.bin: has Trimble strings in it, which -t reads; -e reads ELV strings'

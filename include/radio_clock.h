@@ -31,7 +31,7 @@
 #include <stddef.h>
 #include <stdint.h>
 
-#define RADIO_CLOCK_VERSION "0.3.0"
+#define RADIO_CLOCK_VERSION "0.2.1"
 
 #ifdef __cplusplus
 extern "C" {

@@ -19,7 +19,7 @@ pub(crate) fn write(text: &[u8]) -> bool {
 
 // Tells the version, which include/radio_clock.h has too.
 pub(crate) fn tell_version() {
-    write(b"list_times 0.2.0\n");
+    write(b"list_times 0.2.1\n");
 }
 
 // Tells how the program is used.
@@ -38,8 +38,8 @@ pub(crate) fn tell_help() {
           The flags are #*S!ARL: unsynchronised, unverified, summer time, change of summer time\n\
           announced, leap second announced, alternate antenna, second 60; a dash stands for none.\n\
           N says what is wrong: 1 length, 2 fixed byte, 3 digit, 4 flag, 5 date, 6 time of day,\n\
-          7 weekday, 8 offset from UTC, 9 position. The last line has the totals. ELV strings and\n\
-          DCF77 marks are not listed.\n\
+          7 weekday, 8 offset from UTC, 9 position. The last line has the totals. ELV and Trimble\n\
+          strings and DCF77 marks are not listed.\n\
           \n\
           A serial line must be raw, or its strings are lost. Set it first, with the speed and the\n\
           parity of the receiver:\n\

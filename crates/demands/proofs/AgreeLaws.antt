@@ -72,7 +72,7 @@ pub date-agrees : (year month day : ℕ) →
 date-agrees year month day = (refl, not-exactly _ (supported-exactly year month day), λ p. tt)
 
 -- ---- from C
-room-agrees : (count : ℕ) (fields : List ℤ) → Agree (roomCheck count fields ∷ []) (noRoomFor count fields ∷ [])
+pub room-agrees : (count : ℕ) (fields : List ℤ) → Agree (roomCheck count fields ∷ []) (noRoomFor count fields ∷ [])
 room-agrees count fields = (refl, lt-exactly _ _, λ p. tt)
 
 pub read-agrees : (n : ℕ) (s : List ℕ) (fields : List ℤ) → Agree (readChecks n s fields) (readLines n s fields)

@@ -41,6 +41,8 @@ use Rattle.meinberg_standard.specs.Lines.{standardLines}
 use Rattle.meinberg_pzf.specs.Lines.{pzfLines}
 use Rattle.meinberg_gps.specs.Lines.{gpsLines}
 use Rattle.elv_dcf7000.specs.Lines.{elvLines}
+use Rattle.trimble_sv6.specs.Trimble.{readTrimble}
+use Rattle.trimble_sv6.specs.Lines.{trimbleLines}
 use Rattle.dcf77.specs.Lines.{minuteLines}
 use Rattle.meinberg_gps.specs.Accepts.{AcceptsGps}
 use Rattle.elv_dcf7000.specs.Accepts.{AcceptsElv}
@@ -60,6 +62,7 @@ use Rattle.c_fields.specs.Ranges.{numbered, firstTimeOf, timeOf, gpsOf, minuteO
 use Rattle.c_writer.specs.Writers.{writeFrom, writeMinuteFrom}
 use Rattle.c_readings.specs.Strings.{kindNumberOf, readInto, unixTimeOf}
 use Rattle.c_readings.specs.Minutes.{readMinuteInto}
+use Rattle.c_readings.specs.Trimble.{readTrimbleInto}
 use Rattle.c_feed.specs.Feed.{FeedMemory, feedInto}
 use Rattle.demands.specs.Refusals.{tests, RefusesInOrder, RefusesAndKeeps, CallRefusesAndKeeps}
 use Rattle.demands.specs.Accepted.{AcceptsMinuteNumbers}
@@ -67,6 +70,7 @@ use Rattle.demands.specs.Lines.{textOrder, ownNumbers, minuteOrder, line
 use Rattle.dcf77_outcome.specs.Instant.{isMinuteNumber, outcomeInstant, outcomeUnixTime}
 use Rattle.demands.specs.Lines.{fillLines, correctionLines, instantLines, dateLines, readLines, writeLines}
 use Rattle.demands.specs.Lines.{readMinuteLines, instantLinesOf, feedLines, outcomeTimeLines}
+use Rattle.demands.specs.Trimble.{readTrimbleLines}
 use Rattle.demands.proofs.KindLaws.{kind-laws, row-checks}
 use Rattle.demands.proofs.Checks.{checksAs, readingAs, kindChecks, readChecks, readMinuteChecks}
 use Rattle.demands.proofs.OrderLaws.{ordered, by-tests, keeps, decided, agree-tests, positive-append}
@@ -76,6 +80,7 @@ use Rattle.demands.proofs.NumbersLaws.{from-decided, minute-settled}
 use Rattle.demands.proofs.EntryLaws as entry
 use Rattle.demands.proofs.AgreeLaws as agrees
 use Rattle.demands.proofs.InstantLaws as instants
+use Rattle.demands.proofs.TrimbleLaws as trimble
 
 -- ---- strings
 pub tell-kind : (s : List ℕ) → RefusesInOrder (kindLines s) (1 ∷ []) (kindOf s)
@@ -107,6 +112,9 @@ read-gps s = ordered (gpsFields s) (textChecks gps s) _ (text-lines.agrees gps-w
 pub read-elv : (s : List ℕ) → RefusesInOrder (elvLines s) (textOrder []) (readElv s)
 unfolding readElv readText elv
 read-elv s = ordered (elvFields s) (textChecks elv s) _ (text-lines.agrees elv-words.in-words s) _ refl
+
+pub read-trimble : (s : List ℕ) → RefusesInOrder (trimbleLines s) (1 ∷ 2 ∷ 3 ∷ 24 ∷ 25 ∷ 5 ∷ 6 ∷ []) (readTrimble s)
+read-trimble s = trimble.read-ordered s
 
 pub write-standard : (t : ClockTime) (d : List ℕ) →
     RefusesAndKeeps (writerLines (λ s. AcceptsStandard s t) d) (23 ∷ 20 ∷ []) d (writeStandard t d)
@@ -225,6 +233,11 @@ c-read-minute m fields =
     (keeps
     (decided (readMinuteChecks m fields) _ _ _ _ _ (agrees.read-minute-agrees m fields)
     (entry.read-minute-checks m fields)))
+
+pub c-read-trimble : (s : List ℕ) (fields : List ℤ) →
+    CallRefusesAndKeeps (readTrimbleLines s fields) (1 ∷ 2 ∷ 3 ∷ 24 ∷ 25 ∷ 5 ∷ 6 ∷ 20 ∷ []) fields
+    (calledMemory (readTrimbleInto s fields))
+c-read-trimble s fields = from-memory _ _ refl fields (readTrimbleInto s fields) (keeps (trimble.read-decided s fields))
 
 pub c-write-minute : (z : List ℤ) (d : List ℕ) (old : ℕ) →
     CallRefusesAndKeeps (writerLines (λ m. AcceptsMinuteNumbers m z) d) (23 ∷ 20 ∷ []) (d, old)

@@ -29,6 +29,10 @@ use Rattle.meinberg_gps_position.specs.Rules.{PositionRules, SaysPosition}
 use Rattle.meinberg_gps_position.proofs.Theorems as positions
 use Rattle.elv_dcf7000.specs.Elv.{readElv, writeElv}
 use Rattle.elv_dcf7000.proofs.Theorems as elvs
+use Rattle.trimble_sv6.specs.Trimble.{readTrimble}
+use Rattle.trimble_sv6.specs.Accepts.{AcceptsTrimble}
+use Rattle.trimble_sv6.specs.declared.TrimbleTime.{TrimbleTime}
+use Rattle.trimble_sv6.proofs.Theorems as trimbles
 use Rattle.dcf77.specs.Minute.{readMinute, writeMinute}
 use Rattle.dcf77.specs.declared.MinuteTime.{MinuteTime}
 use Rattle.dcf77.proofs.Theorems as minutes
@@ -41,10 +45,11 @@ use Rattle.time_string.specs.Kind.{kindOf, kindNumber, namedKind, readAs}
 use Rattle.time_string.specs.Accepted.{TellsKind, AcceptsAs}
 use Rattle.time_string.specs.declared.Kind.{Kind}
 use Rattle.time_string.proofs.KindLaws.{kind-told}
-use Rattle.c_numbers.specs.Numbers.{minuteNumbers, minuteCount}
+use Rattle.c_numbers.specs.Numbers.{minuteNumbers, trimbleNumbers, minuteCount}
 use Rattle.c_writer.specs.Writers.{writeFrom, writeMinuteFrom}
 use Rattle.c_readings.specs.Strings.{kindNumberOf, readingNumbers, readInto, unixTimeOf}
 use Rattle.c_readings.specs.Minutes.{readMinuteInto}
+use Rattle.c_readings.specs.Trimble.{readTrimbleInto}
 use Rattle.demands.specs.Accepted.{AcceptsNumbered, AcceptsNumbers, AcceptsMinuteNumbers}
 use Rattle.demands.specs.Exactly.{ReadsExactly, WritesExactly, CallAnswersExactly, CallReadsExactly}
 use Rattle.demands.specs.Exactly.{CallWritesExactly}
@@ -57,6 +62,7 @@ use Rattle.demands.proofs.WriterLaws.{settled, writes-exactly, call-wri
 use Rattle.demands.proofs.NumbersLaws as numbers
 use Rattle.demands.proofs.InstantLaws as instants
 use Rattle.demands.proofs.NeverLaws as never
+use Rattle.demands.proofs.TrimbleLaws as trimble
 
 -- ---- strings
 pub tell-kind : (s : List ℕ) → ReadsExactly (TellsKind s) (kindOf s)
@@ -81,6 +87,9 @@ read-gps = gpss.faithful .reader .accepted-exactly
 
 pub read-elv : (s : List ℕ) → ReadsExactly (AcceptsElv s) (readElv s)
 read-elv = elvs.faithful .reader .accepted-exactly
+
+pub read-trimble : (s : List ℕ) → ReadsExactly (AcceptsTrimble s) (readTrimble s)
+read-trimble = trimbles.faithful .accepted-exactly
 
 pub write-standard : (t : ClockTime) (d : List ℕ) → WritesExactly (λ s. AcceptsStandard s t) d (writeStandard t d)
 write-standard t d = writes-exactly (settled standards.faithful t d)
@@ -144,6 +153,11 @@ pub c-read-minute : (m : List ℕ) (fields : List ℤ)
 unfolding readMinuteInto
 c-read-minute m fields = reader.call-reads minuteNumbers fields (readMinute m) (never.minute-0 m) (read-minute m)
 
+pub c-read-trimble : (s : List ℕ) (fields : List ℤ)
+    → CallReadsExactly trimbleNumbers (AcceptsTrimble s) fields (calledMemory (readTrimbleInto s fields))
+unfolding readTrimbleInto
+c-read-trimble s fields = reader.call-reads trimbleNumbers fields (readTrimble s) (trimble.read-0 s) (read-trimble s)
+
 pub c-write-minute : (z : List ℤ) (d : List ℕ) (old : ℕ)
     → CallWritesExactly (λ m. AcceptsMinuteNumbers m z) d (calledBoth old (writeMinuteFrom z d))
 c-write-minute z d old = call-writes-exactly (numbers.minute-settled z d) old
@@ -187,6 +201,13 @@ pub c-instant-read : (n : ℕ) (s : List ℕ) (fields z : List ℤ) → calledMe
 c-instant-read n s fields z h old =
     let r = c-read n s fields z .0 h in
     (r .0, (r .1 .0, instants.instant-left n s (r .0) (r .1 .0) z _ (r .1 .2) old))
+
+pub c-trimble-instant-read : (s : List ℕ) (fields z : List ℤ) → calledMemory (readTrimbleInto s fields) ≡ called 0 z
+    → (old : ℤ)
+    → (g : TrimbleTime) × (AcceptsTrimble s g × (calledAnswer old (unixTimeOf z) ≡ called 0 (instantOf (g .time))))
+c-trimble-instant-read s fields z h old =
+    let r = c-read-trimble s fields z .0 h in
+    (r .0, (r .1 .0, trimble.instant-left s (r .0) (r .1 .0) z _ (r .1 .2) old))
 
 -- "Second 60 has the instant of the second after it." (01, The reading): an accepted second 60 has an instant divisible
 -- by 86,400, since that second starts a day in UTC

@@ -74,7 +74,7 @@ read-numbered-checks n s =
 abbrev pub inFront : List ℤ → List ℤ → List ℤ
 inFront numbers fields = numbers ++ drop (length numbers) fields
 
-put-checks : {A : Type 0} (numbers : A → List ℤ) (fields : List ℤ) (a : A) (count : ℕ) → length (numbers a) ≡ count
+pub put-checks : {A : Type 0} (numbers : A → List ℤ) (fields : List ℤ) (a : A) (count : ℕ) → length (numbers a) ≡ count
     → putNumbers (numbers a) fields
     ≡ leaves fields (inFront (numbers a) fields) (checked (roomCheck count fields ∷ []) tt)
 unfolding putNumbers

@@ -179,6 +179,13 @@ numbers-exactly z i = rw (numbers-checks z) (go (ofValid z) refl)
       λ r. absurd (false≢true (sym q ∙ of-valid z (r .0) (r .1 .1 .0) (r .1 .0) .0)),
     )
 
+-- of a valid reading's numbers and any others after them
+pub instant-first : (t : ClockTime) → ValidReading t → (z more : List ℤ) → z ≡ timeNumbers t ++ more → (old : ℤ)
+    → calledAnswer old (unixTimeOf z) ≡ called 0 (instantOf t)
+instant-first t v z more e old =
+    let first : take timeCount z ≡ timeNumbers t = rw e (take-at _ _ timeCount (time-long t)) in
+    rw (numbers-exactly z (instantOf t) .1 (t, (first, (v, instant-exactly t v _ .0 refl)))) refl
+
 -- what a reader left in front of what was lent
 pub instant-left : (n : ℕ) (s : List ℕ) (r : Reading) → AcceptsNumbered n s r → (z rest : List ℤ)
     → z ≡ readingNumbers r ++ rest → (old : ℤ)
@@ -186,6 +193,4 @@ pub instant-left : (n : ℕ) (s : List ℕ) (r : Reading) → AcceptsNumbered n 
 instant-left n s r h z rest e old =
     let v = valid-numbers n s r h in
     let t = readingTime r in
-    let whole : z ≡ timeNumbers t ++ (v .1 ++ rest) = e ∙ rw (v .2) (append-assoc (timeNumbers t) (v .1) rest) in
-    let first : take timeCount z ≡ timeNumbers t = rw whole (take-at _ _ timeCount (time-long t)) in
-    rw (numbers-exactly z (instantOf t) .1 (t, (first, (v .0, instant-exactly t (v .0) _ .0 refl)))) refl
+    instant-first t (v .0) z (v .1 ++ rest) (e ∙ rw (v .2) (append-assoc (timeNumbers t) (v .1) rest)) old

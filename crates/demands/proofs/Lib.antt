@@ -10,6 +10,7 @@ pub mod ReaderLaws
 pub mod NumbersLaws
 pub mod InstantLaws
 pub mod NeverLaws
+pub mod TrimbleLaws
 pub mod SheetLaws
 pub mod StreamLaws
 pub mod Demand1

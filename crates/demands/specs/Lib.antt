@@ -3,6 +3,7 @@
 pub mod Refusals
 pub mod Accepted
 pub mod Lines
+pub mod Trimble
 pub mod Exactly
 pub mod Instant
 pub mod OutcomeAt

@@ -8,3 +8,4 @@ mod minutes;
 mod recordings;
 mod streams;
 mod strings;
+mod trimble;

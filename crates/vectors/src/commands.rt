@@ -25,6 +25,8 @@ pub const NUMBER: u64 = 0x6e756d626572;
 
 pub const READ: u64 = 0x72656164;
 
+pub const TRIMBLE: u64 = 0x7472696d626c65;
+
 pub const KIND: u64 = 0x6b696e64;
 
 pub const RUN: u64 = 0x72756e;
@@ -47,7 +49,7 @@ pub const UNFIT: u64 = 0x756e666974;
 // which any other word has.
 pub fn types_of(word: u64) -> u64 {
     match word {
-        KIND | DIGITS | RUN => 0,
+        KIND | TRIMBLE | DIGITS | RUN => 0,
         ERROR | YEAR | READ => 1,
         LEAP => 2,
         OUTCOME => 4,
@@ -65,7 +67,7 @@ pub fn types_of(word: u64) -> u64 {
 
 // What the text of a command shows in place of a zero byte: that of marks, which are kind 4, has a digit for each.
 pub fn base_of(word: u64, v: &Numbers) -> u8 {
-    if (word == KIND) | (word == DIGITS) | (word == NUMBER) {
+    if (word == KIND) | (word == TRIMBLE) | (word == DIGITS) | (word == NUMBER) {
         return 0;
     }
     if ((word == READ) | (word == WRITE)) & (v[1] != 4) {

@@ -22,6 +22,7 @@ fn answer(word: u64, v: &Numbers, s: &[u8], a: &mut Numbers) {
     match word {
         commands::READ => strings::add_read(numbers::u8_at(v, 1), s, a),
         commands::KIND => strings::add_kind(s, a),
+        commands::TRIMBLE => strings::add_trimble(s, a),
         commands::UNIX => numbers::add(a, strings::unix_time(v)),
         commands::RUN => numbers::add(a, dcf77_outcome::run_number(s) as u64),
         commands::DIGITS => numbers::add(a, digits::read(s)),

@@ -1,6 +1,7 @@
 // The commands on readings, as the C API has them: a kind is its number there, and 4 for a DCF77 minute, whose text
 // has a digit for each mark. `read` reads a text, and adds 1 if it is written back the same; `kind` tells the kind
-// first; `write` writes numbers into a lent buffer; `unix` gives the Unix time of numbers.
+// first; `trimble` reads a Trimble string, which is not written; `write` writes numbers into a lent buffer; `unix` gives
+// the Unix time of numbers.
 use crate::numbers;
 use crate::numbers::Numbers;
 use crate::text;
@@ -11,6 +12,7 @@ use c_readings::minutes::radio_clock_write_minute;
 use c_readings::strings::radio_clock_kind;
 use c_readings::strings::radio_clock_read;
 use c_readings::strings::radio_clock_write;
+use c_readings::trimble::radio_clock_read_trimble;
 
 const MINUTE: u8 = 4;
 
@@ -74,6 +76,17 @@ pub fn add_kind(s: &[u8], a: &mut Numbers) {
     if refusal == 0 {
         add_read(kind, s, a);
     }
+}
+
+// Adds the numbers that s is read as, as a Trimble string.
+pub fn add_trimble(s: &[u8], a: &mut Numbers) {
+    let mut fields = [0i32; 15];
+    let refusal = radio_clock_read_trimble(s, &mut fields);
+    if refusal != 0 {
+        numbers::add(a, numbers::answer_number(refusal, 0));
+        return;
+    }
+    numbers::add_fields(a, &fields);
 }
 
 // Writes into the first `room` bytes of the space; none if it has fewer.

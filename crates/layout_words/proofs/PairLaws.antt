@@ -1,4 +1,4 @@
--- Three pairs of digits at once: the code's sums on a word are the numbers of its pairs.
+-- Three or four pairs of digits at once: the code's sums on a word are the numbers of its pairs.
 use Prim.Native.Nat.{ℕ, zero, suc, _+_, _*_, _/_, _%_, _^_, _≤_, _<_}
 use native.Mathlib.Omega.{arith}
 use mathlib.Core.Path.{_≡_, _∙_}
@@ -13,7 +13,7 @@ use Rattle.clock_time.specs.Lists.{slice}
 use Rattle.decimal.specs.Decimal.{valueFrom}
 use Rattle.decimal.proofs.DecimalLaws.{digit-range}
 use Rattle.layout.specs.Layout.{digit, places, FitsLayout, number}
-use Rattle.layout_words.specs.Words.{word, lowPair, threeNumbers, numbersAt}
+use Rattle.layout_words.specs.Words.{word, lowPair, threeNumbers, numbersAt, fourNumbers, fourNumbersAt}
 use Rattle.layout.proofs.LayoutLaws.{allDigits, place-within, digit-place}
 use Rattle.layout_words.proofs.WordLaws.{Bytes, enough-bytes}
 
@@ -50,6 +50,8 @@ pub record Pairs (w at : ℕ) (s : List ℕ) : Type 0 where
   pub first : (10 * w + w / 256) % 256 ≡ lowPair at s
   pub second : (10 * w + w / 256) / 256 / 256 / 256 % 256 ≡ lowPair (at + 3) s
   pub third : (10 * w + w / 256) / 256 / 256 / 256 / 256 / 256 / 256 % 256 ≡ lowPair (at + 6) s
+  pub after-2 : (10 * w + w / 256) / 256 / 256 % 256 ≡ lowPair (at + 2) s
+  pub after-4 : (10 * w + w / 256) / 256 / 256 / 256 / 256 % 256 ≡ lowPair (at + 4) s
 
 halves-small : (a b c d e f g h : ℕ) → a < 16 → b < 16 → c < 16 → d < 16 → e < 16 → f < 16 → g < 16 → h < 16
     → 10 * word (a ∷ b ∷ c ∷ d ∷ e ∷ f ∷ g ∷ h ∷ []) + word (b ∷ c ∷ d ∷ e ∷ f ∷ g ∷ h ∷ []) < 2 ^ 64
@@ -70,7 +72,9 @@ half-pairs at s =
     let i5 = suc i4 in
     let i6 = suc i5 in
     let i7 = suc i6 in
+    let e2 : at + 2 ≡ i2 = omega arith in
     let e3 : at + 3 ≡ i3 = omega arith in
+    let e4 : at + 4 ≡ i4 = omega arith in
     let e6 : at + 6 ≡ i6 = omega arith in
     let m = moved _ (halves 7 i1 s) (l at) in
     let n0 = pair-next _ _ (halves 6 i2 s) (l at) (l i1) in
@@ -84,6 +88,8 @@ half-pairs at s =
       first = rw m (pair-here _ _ (halves 6 i2 s) (l at) (l i1));
       second = rw (m, n0, n1, n2, e3) (pair-here _ _ (halves 3 i5 s) (l i3) (l i4));
       third = rw (m, n0, n1, n2, n3, n4, n5, e6) (pair-here _ _ [] (l i6) (l i7));
+      after-2 = rw (m, n0, n1, e2) (pair-here _ _ (halves 4 i4 s) (l i2) (l i3));
+      after-4 = rw (m, n0, n1, n2, n3, e4) (pair-here _ _ (halves 2 i6 s) (l i4) (l i5));
     }
 
 pub pairs-of : (at : ℕ) (s : List ℕ) → Bytes s → Pairs (bitAnd (word (slice at 8 s)) (word (places 8 15))) at s
@@ -129,3 +135,19 @@ module _ {l s : List ℕ} (h : FitsLayout l s) where
           let w = both (eqb (getD l (at + 6) 0) digit) _ c in
           let v = both (eqb (getD l (suc (at + 6)) 0) digit) true (w .1) in
           omega (arith, place-within l (suc (at + 6)) digit (lit< tt) (eqb-true _ _ (v .0)))
+
+  -- four pairs of digits
+  pub numbers-four : (at : ℕ) → at + 8 ≤ length l → allDigits (slice at 2 l) ≡ true
+      → allDigits (slice (at + 2) 2 l) ≡ true → allDigits (slice (at + 4) 2 l) ≡ true
+      → allDigits (slice (at + 6) 2 l) ≡ true
+      → fourNumbersAt at s
+      ≡ record {
+        first = number 2 at s;
+        second = number 2 (at + 2) s;
+        third = number 2 (at + 4) s;
+        fourth = number 2 (at + 6) s;
+      }
+  unfolding fourNumbersAt fourNumbers
+  numbers-four at room a b c d =
+      let eight : at + 8 ≤ length s = omega (arith, h .long) in
+      rw (enough-bytes at s eight, low-pair at a, low-pair (at + 2) b, low-pair (at + 4) c, low-pair (at + 6) d)

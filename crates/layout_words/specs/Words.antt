@@ -1,4 +1,4 @@
--- Eight bytes at once: a sample or flags that they fit, and the numbers of three pairs of digits.
+-- Eight bytes at once: a sample or flags that they fit, and the numbers of three or four pairs of digits.
 use Prim.Native.Nat.{ℕ, zero, suc, _+_, _*_, _/_, _%_}
 use Prim.Native.Char.{code}
 use mathlib.Core.Bool.{Bool, true, cond}
@@ -7,6 +7,7 @@ use lib.Dec.{leb, eqb}
 use lib.ListN.{length, getD}
 use Rattle.layout.specs.Layout.{samplePlace, flagOf, fitsFrom}
 use Rattle.layout_words.specs.declared.ThreeNumbers.{ThreeNumbers}
+use Rattle.layout_words.specs.declared.FourNumbers.{FourNumbers}
 
 -- the number whose digits to the base 256 are these bytes, the lowest first
 unfoldable pub word : List ℕ → ℕ
@@ -62,3 +63,17 @@ threeNumbers at s = record { first = lowPair at s; second = lowPair (at + 3) s; 
 -- the same from a place on, 0 if there are no eight bytes
 unfoldable pub numbersAt : ℕ → List ℕ → ThreeNumbers
 numbersAt at s = threeNumbers at (enough at s)
+
+-- the numbers of four pairs of digits, one after another
+unfoldable pub fourNumbers : ℕ → List ℕ → FourNumbers
+fourNumbers at s =
+    record {
+      first = lowPair at s;
+      second = lowPair (at + 2) s;
+      third = lowPair (at + 4) s;
+      fourth = lowPair (at + 6) s;
+    }
+
+-- the same from a place on, 0 if there are no eight bytes
+unfoldable pub fourNumbersAt : ℕ → List ℕ → FourNumbers
+fourNumbersAt at s = fourNumbers at (enough at s)

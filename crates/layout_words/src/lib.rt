@@ -1,15 +1,24 @@
-// Eight bytes at once, as one number: whether they fit a sample or flags, and the numbers of three pairs of digits.
+// Eight bytes at once, as one number: whether they fit a sample or flags, and the numbers of three or four pairs of
+// digits.
 ghost use mathlib.Core.Path.{_≡_};
 ghost use mathlib.Core.List.{[], _∷_};
 ghost use Rattle.clock_time.specs.Lists.{slice};
 ghost use Rattle.layout_words.specs.Words.{word, enough, sampleFits, bySample, eachBySample, numbersAt};
-ghost use Rattle.layout_words.specs.Words.{flagsFit, nonzeroBytes};
+ghost use Rattle.layout_words.specs.Words.{fourNumbersAt, flagsFit, nonzeroBytes};
 
 // The numbers of three pairs of digits: of a date, of a time.
 pub struct ThreeNumbers {
     pub first: u8,
     pub second: u8,
     pub third: u8,
+}
+
+// The numbers of four pairs of digits.
+pub struct FourNumbers {
+    pub first: u8,
+    pub second: u8,
+    pub third: u8,
+    pub fourth: u8,
 }
 
 // The number of eight bytes side by side.
@@ -176,5 +185,22 @@ pub fn numbers_at(s: &[u8], at: usize) -> ThreeNumbers
         first: (pairs % 256) as u8,
         second: (second % 256) as u8,
         third: (third % 256) as u8,
+    }
+}
+
+// The numbers of four pairs of digits from a place on, one after another; 0 if there are no eight bytes.
+pub fn four_numbers_at(s: &[u8], at: usize) -> FourNumbers
+    ensures { λ r. ⌜ r ≡ fourNumbersAt at (now (s .entry)) ⌝ }
+{
+    let halves = word_at(s, at) & join(15, 15, 15, 15, 15, 15, 15, 15);
+    let sums = 10 * halves + halves / 256;
+    let second = sums / 256 / 256;
+    let third = second / 256 / 256;
+    let fourth = third / 256 / 256;
+    FourNumbers {
+        first: (sums % 256) as u8,
+        second: (second % 256) as u8,
+        third: (third % 256) as u8,
+        fourth: (fourth % 256) as u8,
     }
 }

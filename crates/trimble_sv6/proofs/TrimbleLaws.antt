@@ -31,7 +31,7 @@ module _ (s : List ℕ) (at : ℕ) where
   four-digits = omega arith
 
   -- the same from numbers of one and two digits
-  pub three-number : 100 * number 1 at s + number 2 (suc at) s ≡ number 3 at s
+  pub three-number : 10 * number 2 at s + number 1 (suc (suc at)) s ≡ number 3 at s
   unfolding valueFrom
   three-number = omega arith
 

@@ -4,10 +4,8 @@ use clock_time::Error;
 use gregorian::FIRST_YEAR;
 use gregorian::LAST_YEAR;
 ghost use mathlib.Core.Path.{_≡_};
-ghost use Prim.Native.Nat.{_<_};
 ghost use lib.ListN.{length};
 ghost use Rattle.layout.specs.Layout.{FitsLayout};
-ghost use Rattle.layout_words.specs.Words.{lowPair};
 ghost use Rattle.trimble_sv6.specs.Trimble.{trimbleLayout, sentFields, millisecondsOf, readClock, readTrimble};
 ghost use Rattle.trimble_sv6.specs.Trimble.{trimbleAnswer};
 
@@ -26,27 +24,21 @@ pub enum TrimbleAnswer {
     Refused(Error),
 }
 
-// The number of the two digits at a place and the next.
-fn pair_at(s: &[u8], at: usize) -> u8
-    requires { ⌜ (length (now s) ≡ 37) × (at < 36) ⌝ }
-    ensures { λ r. ⌜ r ≡ lowPair at (now (s .entry)) ⌝ }
-{
-    10 * (s[at] % 16) + s[at + 1] % 16
-}
-
 // The fields that are sent, and 0 for a weekday.
 fn sent_fields(s: &[u8]) -> ClockTime
     requires { ⌜ (length (now s) ≡ 37) × FitsLayout trimbleLayout (now s) ⌝ }
     ensures { λ r. ⌜ r ≡ sentFields (now (s .entry)) ⌝ }
 {
+    let time = layout_words::four_numbers_at(s, 4);
+    let date = layout_words::four_numbers_at(s, 13);
     ClockTime {
-        year: 100 * (pair_at(s, 17) as u16) + pair_at(s, 19) as u16,
-        month: pair_at(s, 15),
-        day: pair_at(s, 13),
+        year: 100 * (date.third as u16) + date.fourth as u16,
+        month: date.second,
+        day: date.first,
         weekday: 0,
-        hour: pair_at(s, 4),
-        minute: pair_at(s, 6),
-        second: pair_at(s, 8),
+        hour: time.first,
+        minute: time.second,
+        second: time.third,
         utc_offset: 0,
         unsynchronised: false,
         unverified: false,
@@ -61,7 +53,8 @@ fn milliseconds(s: &[u8]) -> u16
     requires { ⌜ (length (now s) ≡ 37) × FitsLayout trimbleLayout (now s) ⌝ }
     ensures { λ r. ⌜ r ≡ millisecondsOf (now (s .entry)) ⌝ }
 {
-    100 * ((s[10] % 16) as u16) + pair_at(s, 11) as u16
+    let time = layout_words::four_numbers_at(s, 4);
+    10 * (time.fourth as u16) + (s[12] % 16) as u16
 }
 
 // Reads the clock time of a string whose sum and validity hold. Refuses with NoSuchDate (5) if the date is not one of

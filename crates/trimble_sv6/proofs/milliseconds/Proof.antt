@@ -1,8 +1,9 @@
 use borrow.Author.Needs.{needs}
 use mathlib.Core.Path.{refl}
 use denote.Ref.{now}
+use lib.Dec.{lit≤}
 use Rattle.clock_time.specs.Lists.{ascii}
-use Rattle.layout_words.proofs.PairLaws.{low-digit, low-pair}
+use Rattle.layout_words.proofs.PairLaws.{low-digit, numbers-four}
 use Rattle.trimble_sv6.specs.Trimble.{trimbleLayout, millisecondsOf}
 use Rattle.trimble_sv6.proofs.TrimbleLaws.{three-number}
 use Rattle.trimble_sv6.proofs.milliseconds.Statement.{statement}
@@ -11,12 +12,14 @@ use Rattle.trimble_sv6.proofs.milliseconds.Tie as tie
 returns : tie.Need-returns
 unfolding millisecondsOf trimbleLayout ascii
 returns c =
-    let f = c .before .before .before .pre .1 in
-    let s = now (c .before .before .before .args .s) in
-    rw (c .pair-at .ensures, low-digit f 10 refl, low-pair f 11 refl) (three-number s 10)
+    let n = c .before .before in
+    let start = n .before .before in
+    let f = start .pre .1 in
+    rw (n .four-numbers-at .ensures, numbers-four f 4 (lit≤ tt) refl refl refl refl, low-digit f 12 refl)
+    (three-number (now (start .args .s)) 10)
 
 pub milliseconds-spec : {M : Type 1} → statement M
 milliseconds-spec =
     tie.close
-    (tie.spec (λ c. search needs) (λ c. search needs) (λ c. search needs) (λ c κs. search needs) (λ c. search needs)
+    (tie.spec (λ c κs. search needs) (λ c. search needs) (λ c. search needs) (λ c. search needs) (λ c. search needs)
     (λ c. search needs) returns)

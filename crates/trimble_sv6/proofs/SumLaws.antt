@@ -1,21 +1,24 @@
 -- Laws of the sum: the code's way to it, eight bytes at once, and that it is the one in words.
 use Prim.Native.Nat.{ℕ, zero, suc, _+_, _-_, _*_, _/_, _%_, _^_, _<_}
 use native.Mathlib.Nat.{zero-add, suc-add, pow-suc, mul-comm, div-one, div-div-eq-div-mul}
+use native.Mathlib.Decide.{ℕ-discrete}
 use native.Mathlib.Omega.{arith}
 use mathlib.Core.Path.{_≡_, refl, sym, ap, ap₂, _∙_}
-use mathlib.Core.Logic.{_↔_}
-use mathlib.Core.Bool.{true, cond}
+use mathlib.Core.Logic.{_↔_, by-cases}
+use mathlib.Core.Bool.{Bool, true, false, cond, _&&_}
 use mathlib.Core.List.{List, [], _∷_, _++_}
-use lib.Bits.{bitXor, xor-mod, xor-shr, xor-zero-r}
-use lib.Dec.{eqb, ltb, eqb→eq}
+use lib.Bits.{bitAnd, bitXor, xor-mod, xor-shr, xor-zero-r}
+use lib.Dec.{eqb, ltb, eqb→eq, lit<}
 use lib.ListN.{getD}
-use borrow.Author.Tests.{eq-eqb, eqb-true}
+use borrow.Author.Tests.{eq-eqb, ne-eqb, eqb-true}
 use Rattle.clock_time.specs.Lists.{ascii, slice}
 use Rattle.clock_time.proofs.ListsLaws.{slice-slice}
 use Rattle.clock_time.proofs.Tests.{both, below-at}
+use Rattle.layout.specs.Layout.{FitsLayout, allowed}
 use Rattle.layout_words.specs.Words.{word}
 use Rattle.layout_words.proofs.WordLaws.{Bytes}
-use Rattle.trimble_sv6.specs.Sum.{xorOf, bytesXor, trimbleSum, hexDigit, sumHolds}
+use Rattle.trimble_sv6.specs.Sum.{xorOf, bytesXor, trimbleSum, hexDigit, hexPair, sumHolds}
+use Rattle.trimble_sv6.specs.Trimble.{trimbleLayout}
 use Rattle.trimble_sv6.specs.Says.{bitAt, bitCount, capitalHex, SumRules}
 use Rattle.trimble_sv6.proofs.XorLaws.{xor-assoc, xor-exchange, bit-xor, bit-zero, low-bits, same-bits}
 
@@ -75,7 +78,7 @@ unfolding xorOf
 two-bytes at s = ap (bitXor (getD s at 0)) (sym (xor-zero-r (getD s (suc at) 0)))
 
 -- four words and two bytes
-pub sum-words : (s : List ℕ) → Bytes s → let at : ℕ → ℕ = λ i. word (slice i 8 s) in
+sum-words : (s : List ℕ) → Bytes s → let at : ℕ → ℕ = λ i. word (slice i 8 s) in
     bitXor (bitXor (bytesXor 8 (bitXor (bitXor (bitXor (at 0) (at 8)) (at 16)) (at 24))) (getD s 32 0)) (getD s 33 0)
     ≡ trimbleSum s
 unfolding trimbleSum
@@ -98,6 +101,15 @@ sum-words s h =
         (word (slice 24 8 s))) ≡ xorOf (slice 0 32 s)
     words = more 24 _ (more 16 _ (more 8 _ (eight 0)))
 
+-- of a string that fits, in which the two are `;*`
+pub sum-fitting : {s : List ℕ} → FitsLayout trimbleLayout s → Bytes s → let at : ℕ → ℕ = λ i. word (slice i 8 s) in
+    bitXor (bitXor (bytesXor 8 (bitXor (bitXor (bitXor (at 0) (at 8)) (at 16)) (at 24))) 59) 42 ≡ trimbleSum s
+unfolding trimbleLayout ascii allowed
+sum-fitting {s} f h =
+    let semicolon : getD s 32 0 ≡ 59 = eqb-true _ _ (f .at 32 (lit< tt)) in
+    let star : getD s 33 0 ≡ 42 = eqb-true _ _ (f .at 33 (lit< tt)) in
+    rw (semicolon, star) at (sum-words s h)
+
 -- ---- in words
 parity : (x c : ℕ) → (x + c % 2) % 2 ≡ (x + c) % 2
 parity x c = omega arith
@@ -109,6 +121,17 @@ bit-count k (suc n) at s =
     bit-xor k (getD s at 0) (xorOf (slice (suc at) n s))
     ∙ ap (λ (x : ℕ). (bitAt k (getD s at 0) + x) % 2) (bit-count k n (suc at) s)
     ∙ parity (bitAt k (getD s at 0)) (bitCount k (suc at) n s)
+
+-- the code's way to two hex digits at once
+pub pair-letters : (n : ℕ) → n < 256 → let digits = n / 16 + 256 * (n % 16) in
+    digits + 12336 + 7 * bitAnd ((digits + 1542) / 16) 257 ≡ hexPair n
+unfolding hexPair hexDigit
+pair-letters n h = eqb→eq _ _ (below-at 256 test tt n h)
+  where
+    test : ℕ → Bool
+    test n =
+        let digits = n / 16 + 256 * (n % 16) in
+        eqb (digits + 12336 + 7 * bitAnd ((digits + 1542) / 16) 257) (hexPair n)
 
 hex-capital : (n : ℕ) → hexDigit n ≡ capitalHex (n % 16)
 unfolding hexDigit ascii
@@ -147,3 +170,27 @@ sum-exactly s = (
 
     lower : n % 16 ≡ n % 256 % 16
     lower = omega arith
+
+-- ---- the digits that were sent
+hex-byte : (n : ℕ) → hexDigit n < 256
+unfolding hexDigit
+hex-byte n = go (ltb (n % 16) 10)
+  where
+    go : (t : Bool) → cond t (48 + n % 16) (65 + (n % 16 - 10)) < 256
+    go true = omega arith
+    go false = omega arith
+
+-- two bytes are others exactly if their number is
+pair-test : (a b c d : ℕ) → a < 256 → b < 256 → c < 256 → d < 256
+    → eqb (a + 256 * b) (c + 256 * d) ≡ (eqb a c && eqb b d)
+pair-test a b c d ha hb hc hd =
+    by-cases (ℕ-discrete a c)
+    (λ e. by-cases (ℕ-discrete b d) (λ f. rw (eq-eqb _ _ e, eq-eqb _ _ f, eq-eqb (a + 256 * b) (c + 256 * d) (omega arith)))
+    (λ f. rw (eq-eqb _ _ e, ne-eqb _ _ f, ne-eqb (a + 256 * b) (c + 256 * d) (λ g. f (omega arith)))))
+    (λ e. rw (ne-eqb _ _ e, ne-eqb (a + 256 * b) (c + 256 * d) (λ g. e (omega arith))))
+
+pub sum-sent : (s : List ℕ) → Bytes s → eqb (getD s 34 0 + 256 * getD s 35 0) (hexPair (trimbleSum s)) ≡ sumHolds s
+unfolding hexPair sumHolds
+sum-sent s h =
+    pair-test (getD s 34 0) (getD s 35 0) (hexDigit (trimbleSum s / 16)) (hexDigit (trimbleSum s)) (h 34) (h 35)
+    (hex-byte (trimbleSum s / 16)) (hex-byte (trimbleSum s))

@@ -1,5 +1,5 @@
 -- The sum of a Trimble string.
-use Prim.Native.Nat.{ℕ, zero, suc, _+_, _-_, _/_, _%_}
+use Prim.Native.Nat.{ℕ, zero, suc, _+_, _-_, _*_, _/_, _%_}
 use Prim.Native.Char.{code}
 use mathlib.Core.Bool.{Bool, cond, _&&_}
 use mathlib.Core.List.{List, [], _∷_}
@@ -25,6 +25,10 @@ trimbleSum s = xorOf (slice 0 34 s)
 -- the capital hex digit of a number's lowest four bits
 unfoldable pub hexDigit : ℕ → ℕ
 hexDigit n = cond (ltb (n % 16) 10) (code "0" + n % 16) (code "A" + (n % 16 - 10))
+
+-- those of a byte side by side, as one number of two bytes whose lower one is the first
+unfoldable pub hexPair : ℕ → ℕ
+hexPair n = hexDigit (n / 16) + 256 * hexDigit n
 
 -- "xx is two capital hex digits of the exclusive or of places 0 to 33." (02, T-01); "xx 34"
 unfoldable pub sumHolds : List ℕ → Bool

@@ -1,7 +1,9 @@
 // The sum of a Trimble string: the exclusive or of its bytes, and whether its two hex digits are those that were sent.
 ghost use mathlib.Core.Path.{_≡_};
 ghost use lib.ListN.{length};
-ghost use Rattle.trimble_sv6.specs.Sum.{bytesXor, hexDigit, trimbleSum, sumHolds};
+ghost use Rattle.layout.specs.Layout.{FitsLayout};
+ghost use Rattle.trimble_sv6.specs.Sum.{bytesXor, hexPair, trimbleSum, sumHolds};
+ghost use Rattle.trimble_sv6.specs.Trimble.{trimbleLayout};
 
 // The exclusive or of the eight bytes of a word: of its halves, of theirs, and of theirs.
 fn fold(w: u64) -> u8
@@ -13,35 +15,39 @@ fn fold(w: u64) -> u8
     (one % 256) as u8
 }
 
-// The exclusive or of the places 0 to 33.
+// The exclusive or of the places 0 to 33, of which the last two hold `;*`.
 fn sum(s: &[u8]) -> u8
-    requires { ⌜ length (now s) ≡ 37 ⌝ }
+    requires { ⌜ (length (now s) ≡ 37) × FitsLayout trimbleLayout (now s) ⌝ }
     ensures { λ r. ⌜ r ≡ trimbleSum (now (s .entry)) ⌝ }
 {
     let words = layout_words::word_at(s, 0)
         ^ layout_words::word_at(s, 8)
         ^ layout_words::word_at(s, 16)
         ^ layout_words::word_at(s, 24);
-    fold(words) ^ s[32] ^ s[33]
+    fold(words) ^ b';' ^ b'*'
 }
 
-// The capital hex digit of a number's lowest four bits.
-fn hex_digit(n: u8) -> u8
-    ensures { λ r. ⌜ r ≡ hexDigit n ⌝ }
+// The two capital hex digits of a byte side by side in one number, the first of them the lower byte. A digit of 10 or more
+// is a letter, which stands 7 places after the digits.
+fn hex_pair(n: u8) -> u16
+    ensures { λ r. ⌜ r ≡ hexPair n ⌝ }
 {
-    let digit = n % 16;
-    if digit < 10 {
-        b'0' + digit
-    } else {
-        b'A' + (digit - 10)
-    }
+    let digits = (n / 16) as u16 + 256 * ((n % 16) as u16);
+    let letters = (digits + 1542) / 16 & 257;
+    digits + 12336 + 7 * letters
+}
+
+fn wide(b: u8) -> u16
+    ensures { λ r. ⌜ r ≡ b ⌝ }
+{
+    b as u16
 }
 
 // Whether the hex digits of the sum are those that were sent.
 pub(crate) fn holds(s: &[u8]) -> bool
-    requires { ⌜ length (now s) ≡ 37 ⌝ }
+    requires { ⌜ (length (now s) ≡ 37) × FitsLayout trimbleLayout (now s) ⌝ }
     ensures { λ r. ⌜ r ≡ sumHolds (now (s .entry)) ⌝ }
 {
-    let sum = sum(s);
-    (s[34] == hex_digit(sum / 16)) & (s[35] == hex_digit(sum))
+    let sent = wide(s[34]) + 256 * wide(s[35]);
+    sent == hex_pair(sum(s))
 }

@@ -6,7 +6,7 @@ use lib.IntN.{ℤ, pos}
 use Rattle.clock_time.specs.Errors.{refused, Check, checked}
 use Rattle.clock_time.specs.Exit.{leaves}
 use Rattle.clock_time.specs.Called.{called, calledAnswer}
-use Rattle.clock_time.proofs.OrderLaws.{Agree, agree-append}
+use Rattle.clock_time.proofs.OrderLaws.{agree-append}
 use Rattle.calendar.specs.UnixTime.{instantOf}
 use Rattle.calendar.proofs.RulesLaws.{valid-exactly}
 use Rattle.trimble_sv6.specs.Trimble.{trimbleFields, readTrimble}

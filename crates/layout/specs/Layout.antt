@@ -10,9 +10,9 @@ use Rattle.clock_time.specs.Lists.{slice}
 use Rattle.decimal.specs.Decimal.{isDigit, value}
 
 -- "Places count from 0." (01, Meinberg and ELV strings): a layout has a number for each of them in turn. Below 256 it
--- is that byte and no other; `digit`, a decimal digit; `free`, any byte, since other rules speak of it; `printable`, a
--- byte from 32 to 126; `flag a`, the letter a or a blank; `either a b`, the letter a, the letter b or a blank. No layout
--- has another number; `allowed` would take one above 258 as a flag.
+-- is that byte and no other; `digit`, a decimal digit; `free`, any byte, since other rules speak of it; `printable`,
+-- a byte from 32 to 126; `flag a`, the letter a or a blank; `either a b`, the letter a, the letter b or a blank. No
+-- layout has another number; `allowed` would take one above 258 as a flag.
 abbrev pub digit : ℕ
 digit = 256
 
@@ -46,10 +46,10 @@ unfoldable pub samplePlace : ℕ → ℕ
 samplePlace p = cond (eqb p (code "0")) digit (cond (eqb p (code "?")) free p)
 
 -- "t `U`, u `#`, v `*`, x `S`, y `!`, z `A`, a `R`, or blank"; "b must be `L` exactly if the second is 60"; of the
--- standard string "x `U` (offset 0), `S` (offset 120, summer time) or blank (offset 60); y `!` (change coming), `A` (leap
--- second coming) or blank" (01, Meinberg and ELV strings); "rrrrr is any bytes from 32 to 126" (02, T-01): a byte of a
--- pattern as a place. These letters stand for the flags and for a printable byte, in every pattern the same, so that the
--- standard string's x and y are X and Y; another byte is that of a sample
+-- standard string "x `U` (offset 0), `S` (offset 120, summer time) or blank (offset 60); y `!` (change coming), `A`
+-- (leap second coming) or blank" (01, Meinberg and ELV strings); "rrrrr is any bytes from 32 to 126" (02, T-01): a byte
+-- of a pattern as a place. These letters stand for the flags and for a printable byte, in every pattern the same, so
+-- that the standard string's x and y are X and Y; another byte is that of a sample
 unfoldable pub patternPlace : ℕ → ℕ
 patternPlace p =
     cond (eqb p (code "t")) (flag "U")
@@ -79,8 +79,8 @@ allowed p b =
     (cond (ltb p 65536) (eqb b 32 || eqb b (p % 256)) (eqb b 32 || eqb b (p / 256 % 256) || eqb b (p % 256))))))
 
 -- 2: "a fixed byte differs"; 3: "no digit in a digit place"; 4: "a flag place holds another character"
--- (01, Refusal numbers); "any bytes from 32 to 126 (others give 2)" (02, T-01); at a free place no byte offends, so that
--- its 4 is never given
+-- (01, Refusal numbers); "any bytes from 32 to 126 (others give 2)" (02, T-01); at a free place no byte offends, so
+-- that its 4 is never given
 unfoldable pub errorAt : ℕ → ℕ
 errorAt p = cond (ltb p 256 || eqb p printable) 2 (cond (eqb p digit) 3 4)
 

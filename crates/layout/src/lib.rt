@@ -53,8 +53,8 @@ fn sample_place(p: u8) -> u32
     p as u32
 }
 
-// The place that a byte of a pattern stands for: a flag's letter for the flag, `r` for a byte from 32 to 126, another byte as
-// in a sample.
+// The place that a byte of a pattern stands for: a flag's letter for the flag, `r` for a byte from 32 to 126, another
+// byte as in a sample.
 fn pattern_place(p: u8) -> u32
     ensures { λ r. ⌜ r ≡ patternPlace p ⌝ }
 {

@@ -29,7 +29,7 @@ use Rattle.trimble_sv6.proofs.SaysLaws.{yearly, in-words}
 
 -- ---- the checks that never fail
 -- no place is a flag's
-no-flag : (s : List ℕ) → not (eqb (length trimbleLayout) (length s)) ≡ false → (found 4 trimbleLayout s || false) ≡ false
+no-flag : (s : List ℕ) → not (eqb (length trimbleLayout) (length s)) ≡ false → flagCheck s .fails ≡ false
 unfolding trimbleLayout ascii yearly
 no-flag s h = go (found 4 trimbleLayout s) refl
   where

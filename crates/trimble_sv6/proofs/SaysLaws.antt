@@ -32,8 +32,9 @@ use Rattle.trimble_sv6.proofs.TrimbleLaws.{three-digits, four-digits}
 -- ---- the years as a check of their own
 pub years-exactly : (s : List ℕ) → (inYears s ≡ true) ↔ YearRules s
 years-exactly s =
-    let test : (inYears s ≡ true) ↔ ((1970 ≤ fourDigitsAt s 17) × (fourDigitsAt s 17 ≤ 2069)) =
-    rw (four-digits s 17) (both-exactly _ _ (le-exactly 1970 (fourDigitsAt s 17)) (le-exactly (fourDigitsAt s 17) 2069)) in (
+    let y = fourDigitsAt s 17 in
+    let test : (inYears s ≡ true) ↔ ((1970 ≤ y) × (y ≤ 2069)) =
+    rw (four-digits s 17) (both-exactly _ _ (le-exactly 1970 y) (le-exactly y 2069)) in (
       λ h. let w = test .0 h in record { least = w .0; most = w .1 },
       λ r. test .1 (r .least, r .most),
     )

@@ -27,8 +27,8 @@ use Rattle.trimble_sv6.proofs.SaysLaws.{yearly, read-yearly, in-words}
 use Rattle.trimble_sv6.proofs.LinesLaws.{read-checks, trimble-agrees}
 
 -- "A string [..] is accepted exactly when the rules [..] hold, and then every field, offset and flag is the one those
--- rules give." (demand 2): it is accepted exactly if it is as drawn, says the value, keeps the rules that only this format
--- has, and the clock time is a reading
+-- rules give." (demand 2): it is accepted exactly if it is as drawn, says the value, keeps the rules that only this
+-- format has, and the clock time is a reading
 pub read-trimble-exactly : (s : List ℕ) (g : TrimbleTime) → (readTrimble s ≡ accepted g)
     ↔ (AsDrawn trimblePicture s × SaysTrimble s g × RulesTrimble s × ReadingRules (g .time))
 unfolding readTrimble yearly
@@ -46,7 +46,8 @@ long = refl
 -- given when its line holds and no earlier one does, and never otherwise." (01, Refusal numbers)
 pub refused-trimble-exactly : (s : List ℕ) (n : ℕ) → (readTrimble s ≡ refused n) ↔ Gives (trimbleLines s) n
 refused-trimble-exactly s n =
-    rw (read-checks s) (orders.refused-exactly (trimbleChecks s) (trimbleLines s) (trimble-agrees s) (trimbleFields s) n)
+    rw (read-checks s)
+    (orders.refused-exactly (trimbleChecks s) (trimbleLines s) (trimble-agrees s) (trimbleFields s) n)
 
 -- "24, the sum is wrong or no hex, after 3; 25, v is not `1`, after 24" (02, T-01)
 pub order : (s : List ℕ) → numbersOf (trimbleLines s) ≡ 1 ∷ 2 ∷ 3 ∷ 24 ∷ 25 ∷ 5 ∷ 6 ∷ []

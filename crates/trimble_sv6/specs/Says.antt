@@ -38,8 +38,8 @@ abbrev pub bitCount : ℕ → ℕ → ℕ → List ℕ → ℕ
 bitCount k at zero s = 0
 bitCount k at (suc n) s = bitAt k (getD s at 0) + bitCount k (suc at) n s
 
--- "the exclusive or of places 0 to 33" (02, T-01) is the byte x: a bit of it is set exactly if an odd number of these 34
--- bytes has it set
+-- "the exclusive or of places 0 to 33" (02, T-01) is the byte x: a bit of it is set exactly if an odd number of these
+-- 34 bytes has it set
 pub record ExclusiveOr (s : List ℕ) (x : ℕ) : Type 0 where
   pub byte : x < 256
   pub bits : (k : ℕ) → k < 8 → bitAt k x ≡ bitCount k 0 34 s % 2
@@ -48,8 +48,8 @@ pub record ExclusiveOr (s : List ℕ) (x : ℕ) : Type 0 where
 abbrev pub capitalHex : ℕ → ℕ
 capitalHex n = getD (ascii "0123456789ABCDEF") n 0
 
--- "xx is two capital hex digits of the exclusive or of places 0 to 33." (02, T-01); otherwise 24: "the sum is wrong or no
--- hex"
+-- "xx is two capital hex digits of the exclusive or of places 0 to 33." (02, T-01); otherwise 24: "the sum is wrong or
+-- no hex"
 pub record SumRules (s : List ℕ) : Type 0 where
   pub sum : ℕ
   pub exclusive-or : ExclusiveOr s sum
@@ -68,8 +68,9 @@ pub record RulesTrimble (s : List ℕ) : Type 0 where
   pub years : YearRules s
 
 -- ---- the fields
--- "then every field, offset and flag is the one those rules give" (demand 2): the string s says the time and milliseconds
--- g, by the sentences at its fields (02, T-01); "it, oo, d and nn are ignored"
+-- "then every field, offset and flag is the one those rules give" (demand 2): the string s says the time and
+-- milliseconds g, by the sentences at its fields (02, T-01). "rrrrr is any bytes from 32 to 126 [..]; it, oo, d and nn
+-- are ignored." (02, T-01)
 pub record SaysTrimble (s : List ℕ) (g : TrimbleTime) : Type 0 where
   -- "hh 4, mm 6, ss 8, ddd 10 (milliseconds)"; "The milliseconds are handed over beside the reading."
   pub hour : g .time .hour ≡ twoDigitsAt s 4
@@ -80,8 +81,8 @@ pub record SaysTrimble (s : List ℕ) (g : TrimbleTime) : Type 0 where
   pub day : g .time .day ≡ twoDigitsAt s 13
   pub month : g .time .month ≡ twoDigitsAt s 15
   pub year : g .time .year ≡ fourDigitsAt s 17
-  -- "weekday is worked out"; if there is no such date, which is refused with 5, it is 0, so that a string says one clock
-  -- time and no other
+  -- "weekday is worked out"; if there is no such date, which is refused with 5, it is 0, so that a string says one
+  -- clock time and no other
   pub weekday : let t = g .time in
       GregorianDate (t .year) (t .month) (t .day) → OnWeekday (t .year) (t .month) (t .day) (t .weekday)
   pub no-date : let t = g .time in (GregorianDate (t .year) (t .month) (t .day) → ⊥) → t .weekday ≡ 0

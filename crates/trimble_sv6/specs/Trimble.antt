@@ -1,6 +1,6 @@
 -- The string of a Trimble SV6 receiver, 37 bytes.
 use Prim.Native.Nat.{ℕ}
-use mathlib.Core.Bool.{Bool, false, not}
+use mathlib.Core.Bool.{false, not}
 use mathlib.Core.List.{List, [], _∷_, _++_}
 use lib.IntN.{pos}
 use Rattle.clock_time.specs.Errors.{Answer, accepted, refused, errorNumber, given, checked}

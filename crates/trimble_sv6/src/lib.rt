@@ -58,8 +58,8 @@ fn milliseconds(s: &[u8]) -> u16
 }
 
 // Reads the clock time of a string whose sum and validity hold. Refuses with NoSuchDate (5) if the date is not one of
-// 1970 to 2069, then with NoSuchTime (6). The tests stand here and not in a call of `check_without_weekday`: with a second
-// caller the compiler would no longer inline that into the reader of ELV strings.
+// 1970 to 2069, then with NoSuchTime (6). The tests stand here and not in a call of `check_without_weekday`: with a
+// second caller the compiler would no longer inline that into the reader of ELV strings.
 fn read_clock(s: &[u8]) -> TrimbleAnswer
     requires { ⌜ (length (now s) ≡ 37) × FitsLayout trimbleLayout (now s) ⌝ }
     ensures { λ r. ⌜ trimbleAnswer r ≡ readClock (now (s .entry)) ⌝ }

@@ -18,7 +18,7 @@ fn is_printable(b: u8) -> bool
     (32 <= b) & (b <= 126)
 }
 
-// Whether the five bytes that are kept free for later are printable.
+// Whether each of the five bytes rrrrr is one from 32 to 126.
 fn reserved_fits(s: &[u8]) -> bool
     requires { ⌜ length (now s) ≡ 37 ⌝ }
     ensures { λ r. ⌜ r ≡ fitsFrom true 27 (places 5 printable) (now (s .entry)) ⌝ }
@@ -30,8 +30,8 @@ fn reserved_fits(s: &[u8]) -> bool
         & is_printable(s[31])
 }
 
-// Whether every place has a byte that may stand there. The fourth eight places begin with six that are tested already, and the
-// last eight with three that `reserved_fits` tests.
+// Whether every place has a byte that may stand there. The fourth eight places begin with six that are tested already,
+// and the last eight with three that `reserved_fits` tests.
 pub(crate) fn fits(s: &[u8]) -> bool
     requires { ⌜ length (now s) ≡ 37 ⌝ }
     ensures { λ r. ⌜ r ≡ fitsFrom true 0 trimbleLayout (now (s .entry)) ⌝ }

@@ -1,7 +1,7 @@
 // The commands on readings, as the C API has them: a kind is its number there, and 4 for a DCF77 minute, whose text
 // has a digit for each mark. `read` reads a text, and adds 1 if it is written back the same; `kind` tells the kind
-// first; `trimble` reads a Trimble string, which is not written; `write` writes numbers into a lent buffer; `unix` gives
-// the Unix time of numbers.
+// first; `trimble` reads a Trimble string, which is not written; `write` writes numbers into a lent buffer; `unix`
+// gives the Unix time of numbers.
 use crate::numbers;
 use crate::numbers::Numbers;
 use crate::text;

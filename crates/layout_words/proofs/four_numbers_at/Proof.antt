@@ -25,7 +25,15 @@ add-sums c = omega (arith, pairs c .small)
 
 returns : tie.Need-returns
 unfolding fourNumbersAt fourNumbers
-returns c = let p = pairs c in λ i. record { first = p .first i; second = p .after-2 i; third = p .after-4 i; fourth = p .third i }
+returns c =
+    let p = pairs c in
+    λ i.
+    record {
+      first = p .first i;
+      second = p .after-2 i;
+      third = p .after-4 i;
+      fourth = p .third i;
+    }
 
 pub four-numbers-at-spec : {M : Type 1} → statement M
 four-numbers-at-spec =

@@ -1,7 +1,6 @@
 -- A word's eight bytes are folded to four, to two and to one.
 use borrow.Author.Needs.{needs}
-use mathlib.Core.Path.{_≡_, sym, _∙_}
-use Rattle.trimble_sv6.specs.Sum.{bytesXor}
+use mathlib.Core.Path.{sym}
 use Rattle.trimble_sv6.proofs.SumLaws.{folded}
 use Rattle.trimble_sv6.proofs.sum.fold.Statement.{statement}
 use Rattle.trimble_sv6.proofs.sum.fold.Tie as tie

@@ -1,8 +1,6 @@
 use borrow.Author.Needs.{needs}
 use native.Mathlib.Omega.{arith}
-use denote.Ref.{now}
 use Rattle.layout_words.specs.Words.{enough}
-use Rattle.layout_words.proofs.WordLaws.{enough-bytes}
 use Rattle.trimble_sv6.proofs.SumLaws.{sum-fitting}
 use Rattle.trimble_sv6.proofs.sum.sum.Statement.{statement}
 use Rattle.trimble_sv6.proofs.sum.sum.Tie as tie

@@ -1,5 +1,5 @@
 -- Laws of the sum: the code's way to it, eight bytes at once, and that it is the one in words.
-use Prim.Native.Nat.{ℕ, zero, suc, _+_, _-_, _*_, _/_, _%_, _^_}
+use Prim.Native.Nat.{ℕ, zero, suc, _+_, _-_, _*_, _/_, _%_, _^_, _<_}
 use native.Mathlib.Nat.{zero-add, suc-add, pow-suc, mul-comm, div-one, div-div-eq-div-mul}
 use native.Mathlib.Decide.{ℕ-discrete}
 use native.Mathlib.Omega.{arith}
@@ -123,14 +123,14 @@ bit-count k (suc n) at s =
     ∙ parity (bitAt k (getD s at 0)) (bitCount k (suc at) n s)
 
 -- the code's way to two hex digits at once
-pub pair-letters : (n : ℕ) → n < 256 → let digits = n / 16 + 256 * (n % 16) in
+pub pair-letters : (n : ℕ) → n < 256 → let digits = bitAnd (n / 16 + 256 * n) 3855 in
     digits + 12336 + 7 * bitAnd ((digits + 1542) / 16) 257 ≡ hexPair n
 unfolding hexPair hexDigit
 pair-letters n h = eqb→eq _ _ (below-at 256 test tt n h)
   where
     test : ℕ → Bool
     test n =
-        let digits = n / 16 + 256 * (n % 16) in
+        let digits = bitAnd (n / 16 + 256 * n) 3855 in
         eqb (digits + 12336 + 7 * bitAnd ((digits + 1542) / 16) 257) (hexPair n)
 
 hex-capital : (n : ℕ) → hexDigit n ≡ capitalHex (n % 16)

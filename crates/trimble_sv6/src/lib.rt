@@ -1,8 +1,6 @@
 // The string of a Trimble SV6 receiver.
 use clock_time::ClockTime;
 use clock_time::Error;
-use gregorian::FIRST_YEAR;
-use gregorian::LAST_YEAR;
 ghost use mathlib.Core.Path.{_≡_};
 ghost use lib.ListN.{length};
 ghost use Rattle.layout.specs.Layout.{FitsLayout};
@@ -58,21 +56,21 @@ fn milliseconds(s: &[u8]) -> u16
 }
 
 // Reads the clock time of a string whose sum and validity hold. Refuses with NoSuchDate (5) if the date is not one of
-// 1970 to 2069, then with NoSuchTime (6). The tests stand here and not in a call of `check_without_weekday`: with a
-// second caller the compiler would no longer inline that into the reader of ELV strings.
+// 1970 to 2069, then with NoSuchTime (6). Just such a date has no weekday, so that one test serves both. It is not
+// `layout::check_without_weekday`: with a second caller the compiler would no longer inline that into ELV's reader.
 fn read_clock(s: &[u8]) -> TrimbleAnswer
     requires { ⌜ (length (now s) ≡ 37) × FitsLayout trimbleLayout (now s) ⌝ }
     ensures { λ r. ⌜ trimbleAnswer r ≡ readClock (now (s .entry)) ⌝ }
 {
-    let t = sent_fields(s);
-    if !gregorian::is_supported_date(FIRST_YEAR, LAST_YEAR, t.year, t.month, t.day) {
+    let t = calendar::date::with_weekday(sent_fields(s));
+    if t.weekday == 0 {
         return TrimbleAnswer::Refused(Error::NoSuchDate);
     }
     if !calendar::time_of_day::time_exists(t.hour, t.minute, t.second, t.utc_offset) {
         return TrimbleAnswer::Refused(Error::NoSuchTime);
     }
     TrimbleAnswer::Read(TrimbleTime {
-        time: calendar::date::with_weekday(t),
+        time: t,
         milliseconds: milliseconds(s),
     })
 }

@@ -32,7 +32,7 @@ fn sum(s: &[u8]) -> u8
 fn hex_pair(n: u8) -> u16
     ensures { λ r. ⌜ r ≡ hexPair n ⌝ }
 {
-    let digits = (n / 16) as u16 + 256 * ((n % 16) as u16);
+    let digits = (n / 16) as u16 + 256 * (n as u16) & 3855;
     let letters = (digits + 1542) / 16 & 257;
     digits + 12336 + 7 * letters
 }

@@ -14,7 +14,7 @@ use Rattle.layout_words.specs.Words.{bySample}
 use Rattle.layout.proofs.LayoutLaws.{fixed-test}
 
 -- two tests that agree on all bytes, by computation
-same-test : (f g : ℕ → Bool) → T (below 256 (λ n. Bool·beq (f n) (g n))) → (n : ℕ) → n < 256 → f n ≡ g n
+pub same-test : (f g : ℕ → Bool) → T (below 256 (λ n. Bool·beq (f n) (g n))) → (n : ℕ) → n < 256 → f n ≡ g n
 same-test f g t n h = go (f n) (g n) (below-at 256 (λ n. Bool·beq (f n) (g n)) t n h)
   where
     go : (a b : Bool) → T (Bool·beq a b) → a ≡ b
@@ -44,7 +44,7 @@ highOf p = bySample 128 0 128 p
 abbrev pub clear : ℕ → ℕ → ℕ → ℕ → Bool
 clear size more high x = eqb (bitAnd (bitOr x ((x + more) % size)) high) 0
 
-digit-test : (b : ℕ) → b < 256 → clear 256 118 128 (bitXor b 48) ≡ isDigit b
+pub digit-test : (b : ℕ) → b < 256 → clear 256 118 128 (bitXor b 48) ≡ isDigit b
 unfolding isDigit
 digit-test = same-test (λ b. clear 256 118 128 (bitXor b 48)) (λ b. isDigit b) tt
 
@@ -78,17 +78,18 @@ each-rule P forDigit forAny forFixed p = go (eqb p 48) (eqb p 63)
 pub high-small : (p : ℕ) → highOf p < 256
 high-small = each-rule (λ more high. high < 256) (lit< tt) (lit< tt) (lit< tt)
 
--- a difference that passes is a byte still with that number added
+-- a difference that passes is a byte still with a number added, by computation
+abbrev pub staysByte : ℕ → ℕ → ℕ → Bool
+staysByte more high x = cond (clear 256 more high x) (ltb (x + more) 256) true
+
+pub stays : (more high : ℕ) → T (below 256 (staysByte more high)) → (x : ℕ) → x < 256 → clear 256 more high x ≡ true
+    → x + more < 256
+stays more high t x h k = ltb→lt (x + more) 256 (rw k at (below-at 256 (staysByte more high) t x h))
+
 pub no-carry : (p x : ℕ) → x < 256 → clear 256 (moreOf p) (highOf p) x ≡ true → x + moreOf p < 256
 no-carry p x h =
-    each-rule (λ more high. clear 256 more high x ≡ true → x + more < 256) (kept 118 128 tt) (kept 0 0 tt)
-    (kept 127 128 tt) p
-  where
-    test : ℕ → ℕ → ℕ → Bool
-    test more high x = cond (clear 256 more high x) (ltb (x + more) 256) true
-
-    kept : (more high : ℕ) → T (below 256 (test more high)) → clear 256 more high x ≡ true → x + more < 256
-    kept more high t k = ltb→lt (x + more) 256 (rw k at (below-at 256 (test more high) t x h))
+    each-rule (λ more high. clear 256 more high x ≡ true → x + more < 256) (stays 118 128 tt x h) (stays 0 0 tt x h)
+    (stays 127 128 tt x h) p
 
 -- ---- the byte of a flag
 -- the high bit of a byte that is not 0

@@ -25,7 +25,7 @@ abbrev pub highs : List ℕ → List ℕ
 highs ps = eachBySample 128 0 128 ps
 
 -- the lowest byte r of a difference, and the others x if it passes: then its sum carries nothing over to theirs
-clear-step : (size m h x n k r : ℕ) → 0 < size → r < 256 → k < 256 → (clear 256 n k r ≡ true → r + n < 256)
+pub clear-step : (size m h x n k r : ℕ) → 0 < size → r < 256 → k < 256 → (clear 256 n k r ≡ true → r + n < 256)
     → clear (size * 256) (m * 256 + n) (h * 256 + k) (x * 256 + r) ≡ (clear 256 n k r && clear size m h x)
 clear-step size m h x n k r some hr hk kept =
     ap (λ (y : ℕ). eqb (bitAnd (bitOr (x * 256 + r) y) (h * 256 + k)) 0) sum

@@ -17,7 +17,7 @@ use Rattle.clock_time.proofs.Tests.{both, below-at}
 use Rattle.layout.specs.Layout.{FitsLayout, allowed}
 use Rattle.layout_words.specs.Words.{word}
 use Rattle.layout_words.proofs.WordLaws.{Bytes}
-use Rattle.trimble_sv6.specs.Sum.{xorOf, bytesXor, trimbleSum, hexDigit, hexPair, sumHolds}
+use Rattle.trimble_sv6.specs.Sum.{xorOf, bytesXor, trimbleSum, hexDigit, bytePair, hexPair, sumHolds}
 use Rattle.trimble_sv6.specs.Trimble.{trimbleLayout}
 use Rattle.trimble_sv6.specs.Says.{bitAt, bitCount, capitalHex, SumRules}
 use Rattle.trimble_sv6.proofs.XorLaws.{xor-assoc, xor-exchange, bit-xor, bit-zero, low-bits, same-bits}
@@ -181,7 +181,7 @@ hex-byte n = go (ltb (n % 16) 10)
     go false = omega arith
 
 -- two bytes are others exactly if their number is
-pair-test : (a b c d : ℕ) → a < 256 → b < 256 → c < 256 → d < 256
+pub pair-test : (a b c d : ℕ) → a < 256 → b < 256 → c < 256 → d < 256
     → eqb (a + 256 * b) (c + 256 * d) ≡ (eqb a c && eqb b d)
 pair-test a b c d ha hb hc hd =
     by-cases (ℕ-discrete a c)
@@ -189,8 +189,8 @@ pair-test a b c d ha hb hc hd =
     (λ f. rw (eq-eqb _ _ e, ne-eqb _ _ f, ne-eqb (a + 256 * b) (c + 256 * d) (λ g. f (omega arith)))))
     (λ e. rw (ne-eqb _ _ e, ne-eqb (a + 256 * b) (c + 256 * d) (λ g. e (omega arith))))
 
-pub sum-sent : (s : List ℕ) → Bytes s → eqb (getD s 34 0 + 256 * getD s 35 0) (hexPair (trimbleSum s)) ≡ sumHolds s
-unfolding hexPair sumHolds
+pub sum-sent : (s : List ℕ) → Bytes s → eqb (bytePair 34 s) (hexPair (trimbleSum s)) ≡ sumHolds s
+unfolding bytePair hexPair sumHolds
 sum-sent s h =
     pair-test (getD s 34 0) (getD s 35 0) (hexDigit (trimbleSum s / 16)) (hexDigit (trimbleSum s)) (h 34) (h 35)
     (hex-byte (trimbleSum s / 16)) (hex-byte (trimbleSum s))

@@ -26,7 +26,11 @@ trimbleSum s = xorOf (slice 0 34 s)
 unfoldable pub hexDigit : ℕ → ℕ
 hexDigit n = cond (ltb (n % 16) 10) (code "0" + n % 16) (code "A" + (n % 16 - 10))
 
--- those of a byte side by side, as one number of two bytes whose lower one is the first
+-- the bytes at a place and the next side by side, as one number whose lower byte is the first
+unfoldable pub bytePair : ℕ → List ℕ → ℕ
+bytePair at s = getD s at 0 + 256 * getD s (suc at) 0
+
+-- the two hex digits of a byte side by side, as one number of two bytes whose lower one is the first
 unfoldable pub hexPair : ℕ → ℕ
 hexPair n = hexDigit (n / 16) + 256 * hexDigit n
 

@@ -1,8 +1,9 @@
 // The sum of a Trimble string: the exclusive or of its bytes, and whether its two hex digits are those that were sent.
 ghost use mathlib.Core.Path.{_≡_};
+ghost use Prim.Native.Nat.{_<_};
 ghost use lib.ListN.{length};
 ghost use Rattle.layout.specs.Layout.{FitsLayout};
-ghost use Rattle.trimble_sv6.specs.Sum.{bytesXor, hexPair, trimbleSum, sumHolds};
+ghost use Rattle.trimble_sv6.specs.Sum.{bytesXor, bytePair, hexPair, trimbleSum, sumHolds};
 ghost use Rattle.trimble_sv6.specs.Trimble.{trimbleLayout};
 
 // The exclusive or of the eight bytes of a word: of its halves, of theirs, and of theirs.
@@ -43,11 +44,18 @@ fn wide(b: u8) -> u16
     b as u16
 }
 
+// The byte at a place and the next, side by side in one number.
+pub(crate) fn pair_at(s: &[u8], at: usize) -> u16
+    requires { ⌜ (length (now s) ≡ 37) × (at < 36) ⌝ }
+    ensures { λ r. ⌜ r ≡ bytePair at (now (s .entry)) ⌝ }
+{
+    wide(s[at]) + 256 * wide(s[at + 1])
+}
+
 // Whether the hex digits of the sum are those that were sent.
 pub(crate) fn holds(s: &[u8]) -> bool
     requires { ⌜ (length (now s) ≡ 37) × FitsLayout trimbleLayout (now s) ⌝ }
     ensures { λ r. ⌜ r ≡ sumHolds (now (s .entry)) ⌝ }
 {
-    let sent = wide(s[34]) + 256 * wide(s[35]);
-    sent == hex_pair(sum(s))
+    pair_at(s, 34) == hex_pair(sum(s))
 }

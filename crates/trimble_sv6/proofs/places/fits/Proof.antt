@@ -14,25 +14,23 @@ use Rattle.trimble_sv6.proofs.places.fits.Tie as tie
 returns : tie.Need-returns
 unfolding fitsFrom allowed ascii trimbleLayout enough samplePlace sampleFits
 returns c =
-    let reserved = c .before .before .before in
-    let d = reserved .before in
-    let e = d .before .before .before in
+    let tail = c .before in
+    let e = tail .before in
     let f = e .before .before .before in
     let g = f .before .before .before in
     let start = g .before .before .before .before in
     rw (
-      c .eight-fit5 .ensures,
-      reserved .reserved-fits .ensures,
-      d .eight-fit4 .ensures,
+      c .end-fits .ensures,
+      tail .tail-fits .ensures,
       e .eight-fit3 .ensures,
       f .eight-fit2 .ensures,
       g .eight-fit .ensures,
       start .pre,
     )
-    (parts-fit (8 ∷ 8 ∷ 8 ∷ 2 ∷ 6 ∷ 5 ∷ []) true 0 trimbleLayout (now (start .args .s)))
+    (parts-fit (8 ∷ 8 ∷ 8 ∷ 8 ∷ 5 ∷ []) true 0 trimbleLayout (now (start .args .s)))
 
 pub fits-spec : {M : Type 1} → statement M
 fits-spec =
     tie.close
     (tie.spec (λ c κs. search needs) (λ c κs. search needs) (λ c κs. search needs) (λ c κs. search needs)
-    (λ c κs. search needs) (λ c κs. search needs) returns)
+    (λ c κs. search needs) returns)

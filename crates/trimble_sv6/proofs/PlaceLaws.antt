@@ -99,33 +99,27 @@ low-stays (suc zero) = stays 0 0 tt
 low-stays (suc (suc zero)) = stays 32 128 tt
 low-stays (suc (suc (suc p))) = stays 0 0 tt
 
--- a byte up to 126
+-- a byte below 128, and one up to 126
 abbrev topMore : ℕ → ℕ
 topMore p = getD (0 ∷ 0 ∷ 1 ∷ []) p 0
 
 abbrev topHigh : ℕ → ℕ
-topHigh p = getD (0 ∷ 0 ∷ 128 ∷ []) p 0
+topHigh p = lowHigh p
 
 abbrev passesTop : ℕ → ℕ → Bool
-passesTop zero b = true
+passesTop zero b = ltb b 128
 passesTop (suc zero) b = true
 passesTop (suc (suc zero)) b = leb b 126
 passesTop (suc (suc (suc p))) b = true
 
-top-high : (p : ℕ) → topHigh p < 256
-top-high zero = lit< tt
-top-high (suc zero) = lit< tt
-top-high (suc (suc zero)) = lit< tt
-top-high (suc (suc (suc p))) = lit< tt
-
 top-test : (p b : ℕ) → b < 256 → clear 256 (topMore p) (topHigh p) (bitXor b 0) ≡ passesTop p b
-top-test zero b h = any-test (bitXor b 0)
+top-test zero b h = same-test (λ b. clear 256 0 128 (bitXor b 0)) (λ b. ltb b 128) tt b h
 top-test (suc zero) b h = any-test (bitXor b 0)
 top-test (suc (suc zero)) b h = same-test (λ b. clear 256 1 128 (bitXor b 0)) (λ b. leb b 126) tt b h
 top-test (suc (suc (suc p))) b h = any-test (bitXor b 0)
 
 top-stays : (p x : ℕ) → x < 256 → clear 256 (topMore p) (topHigh p) x ≡ true → x + topMore p < 256
-top-stays zero = stays 0 0 tt
+top-stays zero = stays 0 128 tt
 top-stays (suc zero) = stays 0 0 tt
 top-stays (suc (suc zero)) = stays 1 128 tt
 top-stays (suc (suc (suc p))) = stays 0 0 tt
@@ -135,8 +129,8 @@ abbrev placeOf : ℕ → ℕ
 placeOf p = getD (digit ∷ free ∷ printable ∷ []) p free
 
 both-tests : (p b : ℕ) → b < 256 → (passesLow p b && passesTop p b) ≡ allowed (placeOf p) b
-unfolding allowed
-both-tests zero b h = and-true (isDigit b)
+unfolding allowed isDigit
+both-tests zero b h = same-test (λ b. isDigit b && ltb b 128) isDigit tt b h
 both-tests (suc zero) b h = refl
 both-tests (suc (suc zero)) b h =
     same-test (λ b. (leb 32 b && ltb b 128) && leb b 126) (λ b. leb 32 b && leb b 126) tt b h
@@ -160,14 +154,14 @@ both-fit (p ∷ ps) s at hs =
 
 pub tail-test : (s : List ℕ) → Bytes s → let w = word (slice 24 8 s) in
     (clear (2 ^ 64) 2314885530816378486 9259542123265425536 (bitXor w 9187201950427394096)
-    && clear (2 ^ 64) 72340172838010880 9259542123265392640 w)
+    && clear (2 ^ 64) 72340172838010880 9259542123265425536 w)
     ≡ fitsFrom true 24 (digit ∷ digit ∷ free ∷ places 5 printable) s
 unfolding word
 tail-test s hs =
     let w = word (slice 24 8 s) in
     ap₂ _&&_ (word-test lowByte lowMore lowHigh passesLow low-small low-high low-test low-stays tail s 24 hs)
-    (ap (clear (2 ^ 64) 72340172838010880 9259542123265392640) (sym (xor-zero-r w))
-    ∙ word-test (λ p. 0) topMore topHigh passesTop (λ p. lit< tt) top-high top-test top-stays tail s 24 hs)
+    (ap (clear (2 ^ 64) 72340172838010880 9259542123265425536) (sym (xor-zero-r w))
+    ∙ word-test (λ p. 0) topMore topHigh passesTop (λ p. lit< tt) low-high top-test top-stays tail s 24 hs)
     ∙ both-fit tail s 24 hs
 
 -- ---- the places 32 to 36

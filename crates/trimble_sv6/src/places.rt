@@ -22,7 +22,7 @@ fn tail_fits(s: &[u8]) -> bool
     let difference = bytes ^ 0x7f7f7f7f7f003030;
     let sum = std::num::wrapping_add_u64(difference, 0x2020202020007676);
     let next = std::num::wrapping_add_u64(bytes, 0x0101010101000000);
-    ((difference | sum) & 0x8080808080008080 == 0) & ((bytes | next) & 0x8080808080000000 == 0)
+    ((difference | sum) & 0x8080808080008080 == 0) & ((bytes | next) & 0x8080808080008080 == 0)
 }
 
 // Whether the places 32 to 36 have `;*`, any two bytes and `<`.

@@ -160,13 +160,20 @@ static void collect_elv(const char *file, const uint8_t *s, size_t n)
         fprintf(stderr, "collector: %s: has Trimble strings in it, which -t reads; -e reads ELV strings\n", file);
 }
 
-/* How long the string is that starts at s, of which n bytes are left. If 37 bytes end in <, these are the string, since
- * the bytes of rrrrr may be < and > too. Else it goes to the next <, to the byte before the next >, or to the end, and
- * is refused. */
+/* Whether the n bytes at s begin with a whole string, right or wrong, in which rrrrr may hold < and > too. One with a >
+ * among its digits was cut off by the next, whose rrrrr may look like its end. */
+static bool is_whole(const uint8_t *s, size_t n)
+{
+    return n >= TRIMBLE && memcmp(s, ">RTM", 4) == 0 && memchr(s + 4, '>', 22) == NULL &&
+           memcmp(s + 32, ";*", 2) == 0 && s[TRIMBLE - 1] == '<';
+}
+
+/* How long the string is that starts at s, of which n bytes are left: 37 bytes if it is whole, else up to the next <,
+ * to the byte before the next >, or to the end, and then it is refused. */
 static size_t trimble_length(const uint8_t *s, size_t n)
 {
     size_t length = 1;
-    if (n >= TRIMBLE && s[TRIMBLE - 1] == '<')
+    if (is_whole(s, n))
         return TRIMBLE;
     while (length < n && s[length] != '>' && s[length - 1] != '<')
         length++;

@@ -87,6 +87,43 @@ collector: -: place 171: refused 1: string length wrong for its kind
 collector: 2 times, 5 refused
 END
 
+# No string is lost to what stands before it: the echo of a poll before one whose rrrrr ends in <, so that 37 bytes from
+# the echo on end in <, and one that was cut off before one whose rrrrr looks like the end of a string.
+{
+    printf '>QTM<>RTM143939124081120061400710000<;*65<'
+    printf '>RTM1>RTM14393912408112006140071;*ab<;*77<'
+    printf '>>RTM14393912408112006140071<<>>>;*67<'
+} | "$collector" -t - > "$work/out" 2> "$work/err"
+diff - "$work/out" << 'END'
+UTC                      local                   zone   flags    file
+2006-11-08 14:39:39.124  2006-11-08 14:39:39.124 +00:00 -------  -
+2006-11-08 14:39:39.124  2006-11-08 14:39:39.124 +00:00 -------  -
+2006-11-08 14:39:39.124  2006-11-08 14:39:39.124 +00:00 -------  -
+END
+diff - "$work/err" << 'END'
+collector: -: place 0: refused 1: string length wrong for its kind
+collector: -: place 42: refused 1: string length wrong for its kind
+collector: -: place 84: refused 1: string length wrong for its kind
+collector: 3 times, 3 refused
+END
+
+# A wrong byte is shown, whatever rrrrr holds: M, a digit, v, ; and the last <, with < and > in rrrrr and without.
+wrong() {
+    printf '%s>RTM1439390010811200614007100000;*6F<' "$1" | "$collector" -t - > "$work/out" 2> "$work/err"
+    if ! grep -q "place 0: refused $2:" "$work/err" || ! grep -q '^2006-11-08 14:39:39.001 ' "$work/out"; then
+        echo "$1: not refused with $2, or the string after it is lost"
+        exit 1
+    fi
+}
+wrong '>RTN143939124081120061400710000<;*65<' 1
+wrong '>RTN1439391240811200614007100000;*6A<' 2
+wrong '>RTM14393912x08112006140071<<>>>;*67<' 3
+wrong '>RTM14393912408112006140070<<>>>;*66<' 25
+wrong '>RTM14393912408112006140071<<>>>:*67<' 1
+wrong '>RTM1439391240811200614007100000:*68<' 2
+wrong '>RTM1439391240811200614007100000;*69?' 2
+wrong '>RTM143939124081120061400710000<;*65?' 1
+
 # A file named with an option that does not read it is told, with the option that does.
 told() {
     "$collector" "$1" "$2" > "$work/out" 2> "$work/err"

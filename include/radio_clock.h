@@ -135,9 +135,10 @@ uint8_t radio_clock_read(uint8_t kind, const uint8_t *s, size_t n, int32_t *fiel
 /* Reads a string of a Trimble SV6, 37 bytes: >RTMhhmmssdddDDMMYYYYoodnnvrrrrr;*xx<. Its time is UTC. It is of none of
  * the kinds above: radio_clock_kind and radio_clock_read refuse it with LENGTH (1), and no function writes it.
  * The first of these that holds: LENGTH (1), FIXED_BYTE (2), also for a byte of rrrrr outside 32 to 126, NOT_DIGIT (3),
- * CHECKSUM (24) if xx is not the exclusive or of the bytes at places 0 to 33 in two capital hexadecimal digits,
- * VALIDITY_FLAG (25) if v is not 1, NO_SUCH_DATE (5), also if the year is not 1970 to 2069, NO_SUCH_TIME (6). Then
- * LENT_MEMORY (20) if room is below 15. Else the first 15 fields are set, and nothing after them. */
+ * also in oo, d and nn, CHECKSUM (24) if xx is not the exclusive or of the bytes at places 0 to 33 in two capital
+ * hexadecimal digits, VALIDITY_FLAG (25) if v is not '1', NO_SUCH_DATE (5), also if the year is not 1970 to 2069,
+ * NO_SUCH_TIME (6). Then LENT_MEMORY (20) if room is below 15. Else the first 15 fields are set, and nothing after
+ * them. The 15th field is the milliseconds; the weekday is worked out. */
 uint8_t radio_clock_read_trimble(const uint8_t *s, size_t n, int32_t *fields, size_t room);
 
 /* Writes the string of the kind named that reads as these fields.
@@ -294,7 +295,8 @@ static inline uint8_t radio_clock_read_string(const uint8_t *s, size_t n, uint8_
 }
 
 /* Reads a Trimble string and works out its Unix time: the errors of radio_clock_read_trimble. Else *t is its time,
- * which is UTC, *time its Unix time, and *milliseconds how far it is past that second: 0 to 999. */
+ * which is UTC, *time its Unix time, and *milliseconds those of its second, 0 to 999; second 60 has the Unix time of
+ * the second after it. */
 static inline uint8_t radio_clock_read_trimble_string(const uint8_t *s, size_t n, struct radio_clock_time *t,
                                                       int32_t *milliseconds, int64_t *time)
 {

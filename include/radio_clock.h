@@ -360,7 +360,7 @@ static inline const char *radio_clock_error_text(uint8_t error)
     static const char *const texts[] = {
         "no error",
         "string length wrong for its kind",
-        "a fixed byte differs",
+        "a fixed byte differs, or a byte is not printable",
         "no digit in a digit place",
         "a flag place holds another character",
         "no such date",

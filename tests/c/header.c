@@ -420,7 +420,7 @@ static void check_framer(void)
 static const char *const texts[] = {
     "no error",
     "string length wrong for its kind",
-    "a fixed byte differs",
+    "a fixed byte differs, or a byte is not printable",
     "no digit in a digit place",
     "a flag place holds another character",
     "no such date",

@@ -18,8 +18,8 @@ ghost use Rattle.calendar.specs.Date.{withWeekday};
 // The place of a byte from 32 to 126.
 const PRINTABLE: u32 = 258;
 
-// The places of flags, each named after the small letter that stands for it in a pattern. ZONE and ANNOUNCED are X and Y
-// there, which have two letters each.
+// The places of flags, each named after the small letter that stands for it in a pattern. ZONE and ANNOUNCED are X and
+// Y there, which have two letters each.
 const T: u32 = 512 + 85;
 
 const U: u32 = 512 + 35;

@@ -91,8 +91,8 @@ fn join_by_sample(
     )
 }
 
-// `eight_fit`, with the sample byte by byte. A byte's difference from the sample, bit by bit, is at most 9 at a digit and 0
-// at a fixed byte: a greater one has the high bit, or gets it when 118 or 127 is added.
+// `eight_fit`, with the sample byte by byte. A byte's difference from the sample, bit by bit, is at most 9 at a digit
+// and 0 at a fixed byte: a greater one has the high bit, or gets it when 118 or 127 is added.
 fn each_fits(s: &[u8], at: usize, a: u8, b: u8, c: u8, d: u8, e: u8, f: u8, g: u8, h: u8) -> bool
     ensures { λ r. ⌜ r ≡ sampleFits at (a ∷ b ∷ c ∷ d ∷ e ∷ f ∷ g ∷ h ∷ []) (now (s .entry)) ⌝ }
 {
@@ -132,8 +132,8 @@ fn nonzero(w: u64) -> u64
     (((w & low) + low) | w) & high
 }
 
-// `flags_fit`, with the letters one by one: no byte differs both from a blank and from its letter. No byte is tested by itself, since
-// a branch on a flag can't be predicted.
+// `flags_fit`, with the letters one by one: no byte differs both from a blank and from its letter. No byte is tested by
+// itself, since a branch on a flag can't be predicted.
 fn each_flag_fits(
     s: &[u8],
     at: usize,

@@ -185,7 +185,8 @@ pub pair-test : (a b c d : ℕ) → a < 256 → b < 256 → c < 256 → d < 256
     → eqb (a + 256 * b) (c + 256 * d) ≡ (eqb a c && eqb b d)
 pair-test a b c d ha hb hc hd =
     by-cases (ℕ-discrete a c)
-    (λ e. by-cases (ℕ-discrete b d) (λ f. rw (eq-eqb _ _ e, eq-eqb _ _ f, eq-eqb (a + 256 * b) (c + 256 * d) (omega arith)))
+    (λ e. by-cases (ℕ-discrete b d)
+    (λ f. rw (eq-eqb _ _ e, eq-eqb _ _ f, eq-eqb (a + 256 * b) (c + 256 * d) (omega arith)))
     (λ f. rw (eq-eqb _ _ e, ne-eqb _ _ f, ne-eqb (a + 256 * b) (c + 256 * d) (λ g. f (omega arith)))))
     (λ e. rw (ne-eqb _ _ e, ne-eqb (a + 256 * b) (c + 256 * d) (λ g. e (omega arith))))
 

@@ -14,7 +14,8 @@ use Rattle.trimble_sv6.specs.declared.TrimbleTime.{TrimbleTime}
 
 -- "`>RTM`, hh 4, mm 6, ss 8, ddd 10 (milliseconds), DD 13, MM 15, YYYY 17, oo 21, d 23, nn 24, v 26, rrrrr 27, `;*` 32,
 -- xx 34, `<` 36. All digits but v, xx and rrrrr; rrrrr is any bytes from 32 to 126" (02, T-01); in the order of
--- "`>RTMhhmmssdddDDMMYYYYoodnnvrrrrr;*xx<`" (001)
+-- "`>RTMhhmmssdddDDMMYYYYoodnnvrrrrr;*xx<`" (001), with DD, MM and YYYY in small letters, since a capital letter stands
+-- for itself in `drawn`
 abbrev pub trimblePicture : List Place
 trimblePicture =
     drawn ">RTMhhmmssdddddmmyyyyoodnn" ++ (free ∷ [])
@@ -48,20 +49,20 @@ pub record ExclusiveOr (s : List ℕ) (x : ℕ) : Type 0 where
 abbrev pub capitalHex : ℕ → ℕ
 capitalHex n = getD (ascii "0123456789ABCDEF") n 0
 
--- "xx is two capital hex digits of the exclusive or of places 0 to 33." (02, T-01); otherwise 24: "the sum is wrong or
--- no hex"
+-- "xx is two capital hex digits of the exclusive or of places 0 to 33."; "xx 34" (02, T-01); otherwise 24: "the sum is
+-- wrong or no hex"
 pub record SumRules (s : List ℕ) : Type 0 where
   pub sum : ℕ
   pub exclusive-or : ExclusiveOr s sum
   pub first : getD s 34 0 ≡ capitalHex (sum / 16)
   pub second : getD s 35 0 ≡ capitalHex (sum % 16)
 
--- "years 1970 to 2069, else 5" (02, T-01)
+-- "years 1970 to 2069, else 5"; "YYYY 17" (02, T-01)
 pub record YearRules (s : List ℕ) : Type 0 where
   pub least : 1970 ≤ fourDigitsAt s 17
   pub most : fourDigitsAt s 17 ≤ 2069
 
--- the format's own rules: not 24, not 25: "v is not `1`" (02, T-01), and its years
+-- the format's own rules: not 24, not 25: "v is not `1`"; "v 26" (02, T-01), and its years
 pub record RulesTrimble (s : List ℕ) : Type 0 where
   pub sum : SumRules s
   pub valid : Stands s 26 "1"
@@ -81,8 +82,8 @@ pub record SaysTrimble (s : List ℕ) (g : TrimbleTime) : Type 0 where
   pub day : g .time .day ≡ twoDigitsAt s 13
   pub month : g .time .month ≡ twoDigitsAt s 15
   pub year : g .time .year ≡ fourDigitsAt s 17
-  -- "weekday is worked out"; if there is no such date, which is refused with 5, it is 0, so that a string says one
-  -- clock time and no other
+  -- "weekday is worked out"; if there is no such date, which is refused with 5, it is 0, so that a string of the years
+  -- from 1970 on says one clock time and no other
   pub weekday : let t = g .time in
       GregorianDate (t .year) (t .month) (t .day) → OnWeekday (t .year) (t .month) (t .day) (t .weekday)
   pub no-date : let t = g .time in (GregorianDate (t .year) (t .month) (t .day) → ⊥) → t .weekday ≡ 0

@@ -47,6 +47,7 @@ fn sent_fields(s: &[u8]) -> ClockTime
     }
 }
 
+// The number of the three digits at place 10.
 fn milliseconds(s: &[u8]) -> u16
     requires { ⌜ (length (now s) ≡ 37) × FitsLayout trimbleLayout (now s) ⌝ }
     ensures { λ r. ⌜ r ≡ millisecondsOf (now (s .entry)) ⌝ }

@@ -11,9 +11,9 @@ ghost use Rattle.trimble_sv6.specs.Trimble.{trimbleLayout};
 // The layout as a pattern, as the definition `trimbleLayout` has it.
 const TRIMBLE: [u8; 37] = *b">RTM0000000000000000000000?rrrrr;*??<";
 
-// Whether the places 24 to 31 have two digits, any byte and the five printable bytes rrrrr. As in `layout_words`, a byte's
-// difference from a sample has the high bit, or gets it when a number is added, if the byte may not stand there: a digit's
-// is at most 9, and 127 less a byte from 32 to 127 is at most 95. The byte 127 gets it when 1 is added.
+// Whether the places 24 to 31 have two digits, any byte and the five printable bytes rrrrr. As in `layout_words`, a
+// byte's difference from a sample has the high bit, or gets it when a number is added, if the byte may not stand there:
+// a digit's is at most 9, and 127 less a byte from 32 to 127 is at most 95. The byte 127 gets it when 1 is added.
 fn tail_fits(s: &[u8]) -> bool
     requires { ⌜ length (now s) ≡ 37 ⌝ }
     ensures { λ r. ⌜ r ≡ fitsFrom true 24 (digit ∷ digit ∷ free ∷ places 5 printable) (now (s .entry)) ⌝ }

@@ -28,8 +28,8 @@ fn sum(s: &[u8]) -> u8
     fold(words) ^ b';' ^ b'*'
 }
 
-// The two capital hex digits of a byte side by side in one number, the first of them the lower byte. A digit of 10 or more
-// is a letter, which stands 7 places after the digits.
+// The two capital hex digits of a byte side by side in one number, the first of them the lower byte. A digit of 10 or
+// more is a letter, which stands 7 places after the digits.
 fn hex_pair(n: u8) -> u16
     ensures { λ r. ⌜ r ≡ hexPair n ⌝ }
 {

@@ -1,5 +1,5 @@
-// The commands on dates and times of day; truth is 1; and `error`, which gives the number of the error at a place of the
-// enum.
+// The commands on dates and times of day; truth is 1; and `error`, which gives the number of the error at a place of
+// the enum.
 use crate::commands;
 use crate::numbers;
 use crate::numbers::Numbers;

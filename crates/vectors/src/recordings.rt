@@ -1,8 +1,8 @@
 // The commands on recordings. The numbers start with the length of the recording and that of its sheet; the text has a
 // digit for each mark and, if it is empty, the marks are those of the module `day`. `at` has a place as its second
 // number, and gives the number there; `fill` makes the sheet; `correct` puts a mark at a place with a sheet that is
-// right, `mend` with one that had a number put at a place of it, and `unfit` with one that holds 7 everywhere. `outcome`
-// has an outcome as its only number, and gives its Unix time.
+// right, `mend` with one that had a number put at a place of it, and `unfit` with one that holds 7 everywhere.
+// `outcome` has an outcome as its only number, and gives its Unix time.
 use crate::commands;
 use crate::day;
 use crate::day::Recording;

@@ -38,6 +38,7 @@ fn hex_pair(n: u8) -> u16
     digits + 12336 + 7 * letters
 }
 
+// A byte as a number of 16 bits.
 fn wide(b: u8) -> u16
     ensures { λ r. ⌜ r ≡ b ⌝ }
 {

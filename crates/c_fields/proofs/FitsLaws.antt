@@ -12,10 +12,11 @@ use Rattle.clock_time.specs.declared.ClockTime.{ClockTime}
 use Rattle.meinberg_gps.specs.declared.GpsTime.{GpsTime}
 use Rattle.dcf77.specs.declared.MinuteTime.{MinuteTime}
 use Rattle.c_numbers.specs.Numbers.{flagNumber, timeNumbers, gpsNumbers, minuteNumbers}
-use Rattle.c_fields.specs.Ranges.{Range, upTo, i32Range, within, timeRanges, gpsRanges, minuteRanges}
+use Rattle.clock_time.specs.FieldRanges.{Range, upTo, i32Range, within, timeRanges, gpsRanges}
+use Rattle.c_fields.specs.Ranges.{minuteRanges}
 use Rattle.c_fields.specs.Ranges.{fits, isSet}
 use Rattle.c_fields.specs.Ranges.{timeFrom, gpsFrom, minuteFrom, timeOf, firstTimeOf, gpsOf, minuteOf}
-use Rattle.c_fields.specs.Fits.{FitsClockTime, FitsPosition}
+use Rattle.clock_time.specs.FieldRanges.{FitsClockTime, FitsPosition}
 use Rattle.c_fields.proofs.RangeLaws.{numbered-fit}
 
 is-set-flag : (b : Bool) → isSet (flagNumber b) ≡ b

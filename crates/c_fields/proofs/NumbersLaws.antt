@@ -15,7 +15,8 @@ use Rattle.clock_time.proofs.Tests.{both}
 use Rattle.meinberg_gps.specs.declared.GpsTime.{GpsTime}
 use Rattle.dcf77.specs.declared.MinuteTime.{MinuteTime}
 use Rattle.c_numbers.specs.Numbers.{flagNumber, timeNumbers, gpsNumbers, minuteNumbers}
-use Rattle.c_fields.specs.Ranges.{Range, upTo, within, timeRanges, gpsRanges, minuteRanges, fits, fitsAll}
+use Rattle.clock_time.specs.FieldRanges.{Range, upTo, within, timeRanges, gpsRanges}
+use Rattle.c_fields.specs.Ranges.{minuteRanges, fits, fitsAll}
 use Rattle.c_fields.specs.Ranges.{at, isSet, timeFrom, gpsFrom, minuteFrom, numbered, timeOf, gpsOf, minuteOf}
 use Rattle.c_fields.proofs.RangeLaws.{fits-at, fits-first}
 

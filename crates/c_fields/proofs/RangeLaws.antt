@@ -14,7 +14,8 @@ use mir.Val.{Fits, SFits, bits}
 use borrow.Author.Tests.{leb-true}
 use Rattle.clock_time.specs.Errors.{accepted, refused}
 use Rattle.clock_time.proofs.Tests.{both}
-use Rattle.c_fields.specs.Ranges.{Range, range, upTo, i16Range, within, ranges, fits, at}
+use Rattle.clock_time.specs.FieldRanges.{Range, range, upTo, i16Range, within}
+use Rattle.c_fields.specs.Ranges.{ranges, fits, at}
 use Rattle.c_fields.specs.Ranges.{fitsAll, numbered}
 
 -- ---- a number in a range

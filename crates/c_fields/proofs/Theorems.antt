@@ -9,7 +9,7 @@ use Rattle.meinberg_gps.specs.declared.GpsTime.{GpsTime}
 use Rattle.dcf77.specs.declared.MinuteTime.{MinuteTime}
 use Rattle.c_numbers.specs.Numbers.{timeNumbers, gpsNumbers, minuteNumbers}
 use Rattle.c_fields.specs.Ranges.{timeOf, gpsOf, minuteOf}
-use Rattle.c_fields.specs.Fits.{FitsClockTime, FitsPosition}
+use Rattle.clock_time.specs.FieldRanges.{FitsClockTime, FitsPosition}
 use Rattle.c_fields.proofs.FitsLaws as fits
 use Rattle.c_fields.proofs.NumbersLaws as numbers
 

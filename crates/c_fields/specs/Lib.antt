@@ -1,4 +1,3 @@
 -- The definitions that the contracts cite.
 pub mod Ranges
-pub mod Fits
 pub mod Numbered

@@ -4,55 +4,15 @@ use mathlib.Core.Bool.{Bool, true, false, not, _&&_}
 use mathlib.Core.List.{List, [], _∷_, _++_}
 use lib.Dec.{eqb}
 use lib.ListN.{length, getD}
-use lib.IntN.{ℤ, pos, negsuc, natAbs}
-use lib.Signed.{leZ}
+use lib.IntN.{ℤ, pos, natAbs}
 use Rattle.clock_time.specs.Errors.{Answer, given, checked}
+use Rattle.clock_time.specs.FieldRanges.{Range, range, within, upTo, timeRanges, gpsRanges}
 use Rattle.clock_time.specs.Same.{eqℤ}
 use Rattle.clock_time.specs.declared.ClockTime.{ClockTime}
 use Rattle.meinberg_gps.specs.declared.GpsTime.{GpsTime}
 use Rattle.dcf77.specs.declared.MinuteTime.{MinuteTime}
 
 -- ---- ranges
--- from `least` up to `most`
-pub record Range : Type 0 where
-  pub least : ℤ
-  pub most : ℤ
-
--- the range from one number to another
-abbrev pub range : ℤ → ℤ → Range
-range least most = record { least = least; most = most }
-
--- a number is in a range
-abbrev pub within : Range → ℤ → Bool
-within r z = leZ (r .least) z && leZ z (r .most)
-
--- from 0: the range of an unsigned field, and of a flag
-abbrev pub upTo : ℕ → Range
-upTo most = range (pos 0) (pos most)
-
--- the range of 16 bits with a sign
-abbrev pub i16Range : Range
-i16Range = range (negsuc 32767) (pos 32767)
-
--- the range of 32 bits with a sign
-abbrev pub i32Range : Range
-i32Range = range (negsuc 2147483647) (pos 2147483647)
-
--- the places of a clock time, as `ClockTime` has its fields
-unfoldable pub timeRanges : List Range
-timeRanges =
-    -- year, month, day, weekday, hour, minute, second
-    upTo 65535 ∷ upTo 255 ∷ upTo 255 ∷ upTo 255 ∷ upTo 255 ∷ upTo 255 ∷ upTo 255
-    -- the offset
-    ∷ i16Range
-    -- six flags
-    ∷ upTo 1 ∷ upTo 1 ∷ upTo 1 ∷ upTo 1 ∷ upTo 1 ∷ upTo 1
-    ∷ []
-
--- latitude, longitude and height after those
-unfoldable pub gpsRanges : List Range
-gpsRanges = timeRanges ++ (i32Range ∷ i32Range ∷ upTo 65535 ∷ [])
-
 -- the marks 1 to 14 and whether there were 60 after those
 unfoldable pub minuteRanges : List Range
 minuteRanges = timeRanges ++ (upTo 65535 ∷ upTo 1 ∷ [])

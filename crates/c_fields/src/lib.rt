@@ -14,7 +14,8 @@ ghost use Prim.Native.Nat.{_<_};
 ghost use lib.IntN.{natAbs};
 ghost use lib.ListN.{length};
 ghost use Rattle.c_fields.specs.Numbered.{numberedTime, numberedGps, numberedMinute};
-ghost use Rattle.c_fields.specs.Ranges.{within, upTo, i16Range, timeRanges, gpsRanges, minuteRanges, ranges};
+ghost use Rattle.clock_time.specs.FieldRanges.{within, upTo, i16Range, timeRanges, gpsRanges};
+ghost use Rattle.c_fields.specs.Ranges.{minuteRanges, ranges};
 ghost use Rattle.c_fields.specs.Ranges.{fits, at, isSet, timeFrom, gpsFrom, minuteFrom, timeOf};
 ghost use Rattle.c_fields.specs.Ranges.{firstTimeOf, gpsOf, minuteOf};
 

@@ -14,19 +14,24 @@ use Rattle.elv_dcf7000.specs.Elv.{writeElv}
 use Rattle.dcf77.specs.Minute.{writeMinute}
 use Rattle.layout.specs.Text.{writeText}
 use Rattle.time_string.specs.Row.{Shape, withoutPosition, withPosition, Shaped, KindRow, kindRow}
-use Rattle.time_string.specs.Kind.{kindNamed}
+use Rattle.time_string.specs.Kind.{kindNumber, kindNamed}
 use Rattle.time_string.specs.declared.Kind.{Kind}
-use Rattle.c_fields.specs.Ranges.{timeOf, gpsOf, minuteOf}
+use Rattle.time_string.specs.declared.Kind.the-variants.{Standard, Pzf}
+use Rattle.c_fields.specs.Ranges.{fitsAll, timeFrom, gpsFrom, numbered, timeOf, minuteOf}
 
 -- what the numbers of a reading stand for, by whether it has a position
-abbrev pub shapedOf : (shape : Shape) → List ℤ → Answer (Shaped shape)
-shapedOf withoutPosition z = timeOf z
-shapedOf withPosition z = gpsOf z
+abbrev pub shapedFrom : (shape : Shape) → List ℤ → Shaped shape
+shapedFrom withoutPosition z = timeFrom z
+shapedFrom withPosition z = gpsFrom z
+
+-- the same if they are in the ranges of the row
+abbrev pub valueOf : (r : KindRow) → List ℤ → Answer (Shaped (r .shape))
+valueOf r z = numbered (fitsAll (r .ranges) z) (shapedFrom (r .shape) z)
 
 -- "For a writer: 23, 20" (01, Refusal numbers): 23 if the numbers are no reading's, else what the writer of the row's
 -- format leaves
 abbrev pub writeRow : KindRow → List ℤ → List ℕ → Written
-writeRow r z buffer = leaving buffer (shapedOf (r .shape) z) (λ a. writeText (r .format) a buffer)
+writeRow r z buffer = leaving buffer (valueOf r z) (λ a. writeText (r .format) a buffer)
 
 -- the same of a kind
 unfoldable pub writeAs : Kind → List ℤ → List ℕ → Written
@@ -41,10 +46,11 @@ unfoldable pub writeMinuteFrom : List ℤ → List ℕ → Written
 writeMinuteFrom z buffer = leaving buffer (minuteOf z) (λ a. writeMinute a buffer)
 
 -- ---- what the private functions write
--- a clock time as a string of kind 0 or 1, or of kind 3 for any other number
+-- a clock time as a string of the kind with this number, as an ELV string if it names no other without a position
 unfoldable pub writeTime : ℕ → ClockTime → List ℕ → Written
 writeTime n t buffer =
-    cond (eqb n 0) (writeStandard t buffer) (cond (eqb n 1) (writePzf t buffer) (writeElv t buffer))
+    cond (eqb n (kindNumber Standard)) (writeStandard t buffer)
+    (cond (eqb n (kindNumber Pzf)) (writePzf t buffer) (writeElv t buffer))
 
 -- the same from the numbers of a clock time
 unfoldable pub writeTimeFrom : ℕ → List ℤ → List ℕ → Written

@@ -23,12 +23,12 @@ use Rattle.dcf77_outcome.specs.Instant.{isMinuteNumber}
 use Rattle.dcf77_outcome.proofs.Theorems.{minute-number-exactly}
 use Rattle.recording.specs.Recording.{unfit, correctionChecks}
 use Rattle.dcf77.specs.Lines.{minuteLines}
+use Rattle.time_string.specs.Row.{textOrder}
 use Rattle.time_string.specs.Kind.{namedKind}
-use Rattle.time_string.proofs.KindLaws.{kind-told, untold}
+use Rattle.time_string.proofs.KindLaws.{kind-laws, untold}
 use Rattle.demands.specs.Lines.{linesAs, kindLines, outcomeLines, fillLines, correctionLines, instantLines}
 use Rattle.demands.specs.Lines.{dateLines, numberCount, readLines, readMinuteLines, feedLines}
-use Rattle.demands.specs.Lines.{textOrder, ownNumbers, noRoomFor, outcomeTimeLines}
-use Rattle.demands.proofs.KindLaws.{kind-laws}
+use Rattle.demands.specs.Lines.{ownNumbers, noRoomFor, outcomeTimeLines}
 use Rattle.demands.proofs.ReaderLaws.{unknown-exactly}
 use Rattle.demands.proofs.Checks.{checksAs, kindChecks, roomCheck, readChecks, readMinuteChecks}
 
@@ -37,7 +37,7 @@ pub kind-agrees : (s : List ℕ) → Agree (kindChecks s) (kindLines s)
 kind-agrees s = (
   refl,
   (
-    λ h kind e. let some = kind-told kind .some s e in false≢true (rw (some .1) at h),
+    λ h kind e. let some = kind-laws kind .some s e in false≢true (rw (some .1) at h),
     λ none. rw (untold s none) refl,
   ),
   λ p. tt,
@@ -79,7 +79,7 @@ pub read-agrees : (n : ℕ) (s : List ℕ) (fields : List ℤ) → Agree (readCh
 read-agrees n s fields = (
   refl,
   unknown-exactly n,
-  λ p. agree-append (checksAs (namedKind n) s) (linesAs (namedKind n) s) _ _ (kind-laws (namedKind n) .agree s)
+  λ p. agree-append (checksAs (namedKind n) s) (linesAs (namedKind n) s) _ _ (kind-laws (namedKind n) .row .agree s)
       (λ q. room-agrees (numberCount (namedKind n)) fields),
 )
 
@@ -89,7 +89,7 @@ numbers-append (k ∷ ks) ls = ap (λ (ns : List ℕ). k .number ∷ ns) (number
 
 pub read-numbers : (n : ℕ) (s : List ℕ) (fields : List ℤ)
     → numbersOf (readLines n s fields) ≡ 1 ∷ textOrder (ownNumbers (namedKind n)) ++ (20 ∷ [])
-read-numbers n s fields = rw (numbers-append (linesAs (namedKind n) s), kind-laws (namedKind n) .order s)
+read-numbers n s fields = rw (numbers-append (linesAs (namedKind n) s), kind-laws (namedKind n) .row .order s)
 
 pub read-minute-agrees : (m : List ℕ) (fields : List ℤ) → Agree (readMinuteChecks m fields) (readMinuteLines m fields)
 read-minute-agrees m fields =

@@ -12,7 +12,9 @@ use lib.IntN.{ℤ}
 use Rattle.clock_time.specs.Errors.{Check, given, checked}
 use Rattle.clock_time.specs.Called.{calledAnswer, calledMemory, calledBoth}
 use Rattle.clock_time.specs.Writing.{writing}
+use Rattle.clock_time.specs.FieldRanges.{timeRanges, gpsRanges}
 use Rattle.clock_time.specs.declared.ClockTime.{ClockTime}
+use Rattle.clock_time.proofs.OrderLaws.{positive-append}
 use Rattle.gregorian.specs.Date.{supportedDate, firstYear, lastYear}
 use Rattle.calendar.specs.Date.{dayNumber, weekdayOf}
 use Rattle.calendar.specs.UnixTime.{isReading, instantOf, unixTime}
@@ -50,14 +52,15 @@ use Rattle.dcf77.specs.Accepts.{AcceptsMinute}
 use Rattle.meinberg_gps_position.specs.Position.{positionFault, positionOf, readPosition}
 use Rattle.meinberg_gps_position.specs.Rules.{positionLines}
 use Rattle.meinberg_gps_position.proofs.Theorems as positions
-use Rattle.time_string.specs.Row.{kindRow}
+use Rattle.time_string.specs.Row.{textOrder, kindRow}
 use Rattle.time_string.specs.Kind.{kindOf, namedKind, readAs}
 use Rattle.time_string.specs.declared.Kind.{Kind}
+use Rattle.time_string.proofs.KindLaws.{kind-laws}
 use Rattle.recording.specs.Recording.{rule, unfit, outcomeAt, fillOutcomes, recorded, correctionChecks, correctMark}
 use Rattle.listing_lines.specs.Line.{timeLine, writeLine}
 use Rattle.listing_lines.specs.Totals.{totalsLine, writeTotals}
 use Rattle.listing_lines.specs.declared.Totals.{Totals}
-use Rattle.c_fields.specs.Ranges.{timeRanges, gpsRanges, minuteRanges, fits, fitsAll, timeFrom, gpsFrom, minuteFrom}
+use Rattle.c_fields.specs.Ranges.{minuteRanges, fits, fitsAll, timeFrom, gpsFrom, minuteFrom}
 use Rattle.c_fields.specs.Ranges.{numbered, firstTimeOf, timeOf, gpsOf, minuteOf}
 use Rattle.c_writer.specs.Writers.{writeFrom, writeMinuteFrom}
 use Rattle.c_readings.specs.Strings.{kindNumberOf, readInto, unixTimeOf}
@@ -66,14 +69,14 @@ use Rattle.c_readings.specs.Trimble.{readTrimbleInto}
 use Rattle.c_feed.specs.Feed.{FeedMemory, feedInto}
 use Rattle.demands.specs.Refusals.{tests, RefusesInOrder, RefusesAndKeeps, CallRefusesAndKeeps}
 use Rattle.demands.specs.Accepted.{AcceptsMinuteNumbers}
-use Rattle.demands.specs.Lines.{textOrder, ownNumbers, minuteOrder, linesAs, kindLines, writerLines, outcomeLines}
+use Rattle.demands.specs.Lines.{ownNumbers, minuteOrder, linesAs, kindLines, writerLines, outcomeLines}
 use Rattle.dcf77_outcome.specs.Instant.{isMinuteNumber, outcomeInstant, outcomeUnixTime}
 use Rattle.demands.specs.Lines.{fillLines, correctionLines, instantLines, dateLines, readLines, writeLines}
 use Rattle.demands.specs.Lines.{readMinuteLines, instantLinesOf, feedLines, outcomeTimeLines}
 use Rattle.demands.specs.Trimble.{readTrimbleLines}
-use Rattle.demands.proofs.KindLaws.{kind-laws, row-checks}
+use Rattle.demands.proofs.KindLaws.{row-checks}
 use Rattle.demands.proofs.Checks.{checksAs, readingAs, kindChecks, readChecks, readMinuteChecks}
-use Rattle.demands.proofs.OrderLaws.{ordered, by-tests, keeps, decided, agree-tests, positive-append}
+use Rattle.demands.proofs.OrderLaws.{ordered, by-tests, keeps, decided, agree-tests}
 use Rattle.demands.proofs.OrderLaws.{from-answer, from-memory, from-both}
 use Rattle.demands.proofs.WriterLaws.{settled, writer-keeps}
 use Rattle.demands.proofs.NumbersLaws.{from-decided, minute-settled}
@@ -91,7 +94,7 @@ pub read-by-kind : (kind : Kind) (s : List ℕ)
     → RefusesInOrder (linesAs kind s) (textOrder (ownNumbers kind)) (readAs kind s)
 unfolding readAs
 read-by-kind kind s =
-    let k = kind-laws kind in
+    let k = kind-laws kind .row in
     rw (← (k .order s))
     (ordered (readingAs kind s) (checksAs kind s) (linesAs kind s) (k .agree s) (readAs kind s)
     (row-checks (kindRow kind) s))
@@ -214,7 +217,7 @@ pub c-read : (n : ℕ) (s : List ℕ) (fields : List ℤ) →
     (calledMemory (readInto n s fields))
 c-read n s fields =
     from-memory (readLines n s fields) _
-    (positive-append (textOrder (ownNumbers (namedKind n))) (20 ∷ []) (kind-laws (namedKind n) .above-0) refl) fields
+    (positive-append (textOrder (ownNumbers (namedKind n))) (20 ∷ []) (kind-laws (namedKind n) .row .above-0) refl) fields
     (readInto n s fields)
     (rw (← (agrees.read-numbers n s fields))
     (keeps

@@ -44,7 +44,7 @@ use Rattle.time_string.specs.Row.{Reading, readingTime}
 use Rattle.time_string.specs.Kind.{kindOf, kindNumber, namedKind, readAs}
 use Rattle.time_string.specs.Accepted.{TellsKind, AcceptsAs}
 use Rattle.time_string.specs.declared.Kind.{Kind}
-use Rattle.time_string.proofs.KindLaws.{kind-told}
+use Rattle.time_string.proofs.KindLaws.{kind-laws}
 use Rattle.c_numbers.specs.Numbers.{minuteNumbers, trimbleNumbers, minuteCount}
 use Rattle.c_writer.specs.Writers.{writeFrom, writeMinuteFrom}
 use Rattle.c_readings.specs.Strings.{kindNumberOf, readingNumbers, readInto, unixTimeOf}
@@ -56,7 +56,7 @@ use Rattle.demands.specs.Exactly.{CallWritesExactly}
 use Rattle.dcf77_outcome.specs.Instant.{outcomeUnixTime}
 use Rattle.demands.specs.Instant.{InstantOf, InstantOfNumbers, OutcomeInstant}
 use Rattle.demands.specs.Lines.{numberCount}
-use Rattle.demands.proofs.KindLaws.{kind-laws}
+use Rattle.demands.proofs.KindLaws.{kind-exactly}
 use Rattle.demands.proofs.ReaderLaws as reader
 use Rattle.demands.proofs.WriterLaws.{settled, writes-exactly, call-writes-exactly}
 use Rattle.demands.proofs.NumbersLaws as numbers
@@ -70,11 +70,11 @@ tell-kind = reader.tells-exactly
 
 pub read-by-kind : (kind : Kind) (s : List ℕ) → ReadsExactly (AcceptsAs kind s) (readAs kind s)
 unfolding readAs
-read-by-kind kind = kind-laws kind .exactly
+read-by-kind kind = kind-exactly kind
 
 -- what is accepted as a kind is told as that kind
 pub tell-accepted : (kind : Kind) (s : List ℕ) (r : Reading) → AcceptsAs kind s r → kindOf s ≡ accepted kind
-tell-accepted kind s r h = kind-told kind .told s (kind-told kind .accepted-told s r h)
+tell-accepted kind s r h = kind-laws kind .told s (kind-laws kind .accepted-told s r h)
 
 pub read-standard : (s : List ℕ) → ReadsExactly (AcceptsStandard s) (readStandard s)
 read-standard = standards.faithful .reader .accepted-exactly

@@ -16,11 +16,12 @@ use Rattle.time_string.specs.declared.Kind.{Kind}
 use Rattle.time_string.specs.declared.Kind.the-variants.{Standard}
 use Rattle.dcf77.specs.Minute.{minuteChecks, minuteFields, readMinute}
 use Rattle.c_numbers.specs.Numbers.{timeNumbers, minuteNumbers, putNumbers, putAnswer, minuteCount}
-use Rattle.c_fields.specs.Ranges.{timeRanges, fits, timeFrom, numbered}
+use Rattle.clock_time.specs.FieldRanges.{timeRanges}
+use Rattle.c_fields.specs.Ranges.{fits, timeFrom, numbered}
 use Rattle.c_readings.specs.Strings.{kindNumberOf, readingNumbers, readNumbered, readInto, unixTimeOf}
 use Rattle.c_readings.specs.Minutes.{readMinuteInto}
 use Rattle.demands.specs.Lines.{numberCount}
-use Rattle.demands.proofs.KindLaws.{row-checks, row-long}
+use Rattle.demands.proofs.KindLaws.{row-checks, kind-long}
 use Rattle.demands.proofs.Checks.{checksAs, readingAs, isUntold, kindChecks, kindCheck, roomCheck, readChecks}
 use Rattle.demands.proofs.Checks.{readMinuteChecks}
 use Rattle.demands.proofs.OrderLaws.{then-checked, then-leaves}
@@ -88,7 +89,7 @@ read-checks n s fields =
     rw (read-numbered-checks n s)
     (then-leaves a tt (roomCheck (numberCount (namedKind n)) fields ∷ []) fields (inFront (readingNumbers a) fields)
     (λ x. putNumbers (readingNumbers x) fields)
-    (put-checks readingNumbers fields a (numberCount (namedKind n)) (row-long (kindRow (namedKind n)) s))
+    (put-checks readingNumbers fields a (numberCount (namedKind n)) (kind-long (namedKind n) s))
     (kindCheck n ∷ checksAs (namedKind n) s))
 
 -- ---- minutes

@@ -23,7 +23,8 @@ use Rattle.calendar.proofs.Theorems.{day-after-exactly}
 use Rattle.dcf77_outcome.specs.Instant.{isMinuteNumber, outcomeInstant, outcomeUnixTime}
 use Rattle.dcf77_outcome.proofs.Theorems.{minute-number-exactly, announced-instant}
 use Rattle.c_numbers.specs.Numbers.{timeNumbers, timeCount}
-use Rattle.c_fields.specs.Ranges.{Range, within, timeRanges, fits, timeFrom, numbered}
+use Rattle.clock_time.specs.FieldRanges.{Range, within, timeRanges}
+use Rattle.c_fields.specs.Ranges.{fits, timeFrom, numbered}
 use Rattle.c_fields.proofs.FitsLaws.{first-time-numbers}
 use Rattle.c_fields.proofs.Theorems as fields
 use Rattle.time_string.specs.Row.{Reading, readingTime}

@@ -9,11 +9,12 @@ use Rattle.calendar.specs.UnixTime.{instantOf}
 use Rattle.dcf77.specs.Minute.{readMinute}
 use Rattle.dcf77_outcome.specs.Instant.{outcomeUnixTime}
 use Rattle.c_fields.specs.Ranges.{timeFrom}
+use Rattle.time_string.specs.Row.{textOrder}
 use Rattle.time_string.specs.Kind.{kindNumber, namedKind}
+use Rattle.time_string.proofs.KindLaws.{kind-laws}
 use Rattle.c_readings.specs.Strings.{kindNumberOf, readNumbered, unixTimeOf}
-use Rattle.demands.specs.Lines.{textOrder, ownNumbers, minuteOrder, kindLines, linesAs, unknownKind}
+use Rattle.demands.specs.Lines.{ownNumbers, minuteOrder, kindLines, linesAs, unknownKind}
 use Rattle.demands.specs.Lines.{instantLinesOf}
-use Rattle.demands.proofs.KindLaws.{kind-laws}
 use Rattle.demands.proofs.ReaderLaws.{unknown-exactly}
 use Rattle.demands.proofs.Checks.{checksAs, readingAs, kindCheck, kindChecks}
 use Rattle.demands.proofs.EntryLaws as entry
@@ -31,11 +32,11 @@ kind-0 s =
 pub read-0 : (n : ℕ) (s : List ℕ) → readNumbered n s ≡ refused 0 → ⊥
 read-0 n s =
     never-0 (unknownKind n ∷ linesAs (namedKind n) s) (1 ∷ textOrder (ownNumbers (namedKind n)))
-    (kind-laws (namedKind n) .above-0) (readNumbered n s)
-    (rw (← (kind-laws (namedKind n) .order s))
+    (kind-laws (namedKind n) .row .above-0) (readNumbered n s)
+    (rw (← (kind-laws (namedKind n) .row .order s))
     (ordered (readingAs (namedKind n) s) (kindCheck n ∷ checksAs (namedKind n) s)
     (unknownKind n ∷ linesAs (namedKind n) s)
-    (refl, unknown-exactly n, λ p. kind-laws (namedKind n) .agree s) (readNumbered n s)
+    (refl, unknown-exactly n, λ p. kind-laws (namedKind n) .row .agree s) (readNumbered n s)
     (entry.read-numbered-checks n s)))
 
 pub minute-0 : (m : List ℕ) → readMinute m ≡ refused 0 → ⊥

@@ -16,7 +16,7 @@ use Rattle.dcf77.specs.Minute.{writeMinute}
 use Rattle.dcf77.specs.declared.MinuteTime.{MinuteTime}
 use Rattle.dcf77.proofs.Theorems as minutes
 use Rattle.time_string.specs.Row.{Reading, time, timeAndPosition, readingTime, kindRow, allKinds}
-use Rattle.time_string.specs.Kind.{kindNumber, namedKind, readAs}
+use Rattle.time_string.specs.Kind.{kindNumber, namedKind}
 use Rattle.time_string.specs.Accepted.{AcceptsAs}
 use Rattle.time_string.specs.declared.Kind.{Kind}
 use Rattle.c_numbers.specs.Numbers.{timeNumbers, gpsNumbers, minuteNumbers, minuteCount}
@@ -31,7 +31,7 @@ use Rattle.demands.proofs.OrderLaws.{Decided, decided-after}
 use Rattle.demands.proofs.WriterLaws.{Settled, settled, settled-same, writer-decided, numbers-settled}
 use Rattle.demands.proofs.WriterLaws.{writes-exactly, call-writes-exactly}
 use Rattle.demands.proofs.FitsLaws.{valid-fits, marks-small}
-use Rattle.demands.proofs.KindLaws.{kind-laws, row-checks, row-long, numbered-23}
+use Rattle.demands.proofs.KindLaws.{row-checks, kind-long, kind-exactly, kind-valid, kind-settles, numbered-23}
 use Rattle.demands.proofs.Checks.{checksAs, readingAs, kindCheck}
 use Rattle.demands.proofs.EntryLaws.{kind-named}
 use Rattle.demands.proofs.ReaderLaws.{number-named, named-exactly, unknown-exactly}
@@ -52,7 +52,7 @@ numbered-settled n known z d =
       λ h.
           let q = named-number n (h .1 .0 .0) (h .1 .0 .1 .0) .1 in
           (h .0, (subst (λ (k : Kind). AcceptsAs k s (h .0)) (sym q) (h .1 .0 .1 .1), h .1 .1)),
-    )) (kind-laws (namedKind n) .settles z d)
+    )) (kind-settles (namedKind n) z d)
 
 module _ (n : ℕ) (z : List ℤ) (d : List ℕ) where
   from-known : leb (length allKinds) n ≡ false → writeFrom n z d ≡ writeAs (namedKind n) z d
@@ -125,11 +125,11 @@ module _ (n : ℕ) (s : List ℕ) (r : Reading) where
   numbers-long h =
       let kind = h .0 in
       let row = kindRow kind in
-      let read = kind-laws kind .exactly s r .1 (h .1 .1) in
+      let read = kind-exactly kind s r .1 (h .1 .1) in
       let w = accepted-passes (checksAs kind s) (readingAs kind s) r (sym (row-checks row s) ∙ read) in
-      rw (named-number n kind (h .1 .0) .1, w .1) (row-long row s)
+      rw (named-number n kind (h .1 .0) .1, w .1) (kind-long kind s)
 
   -- the first 14 are those of a valid reading
   pub valid-numbers : AcceptsNumbered n s r
       → ValidReading (readingTime r) × (rest : List ℤ) × (readingNumbers r ≡ timeNumbers (readingTime r) ++ rest)
-  valid-numbers h = let more = more-numbers r in (kind-laws (h .0) .valid s r (h .1 .1), more .0, more .1)
+  valid-numbers h = let more = more-numbers r in (kind-valid (h .0) s r (h .1 .1), more .0, more .1)

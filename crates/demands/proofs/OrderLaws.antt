@@ -3,16 +3,16 @@ use Prim.Native.Nat.{ℕ, suc}
 use native.Mathlib.Omega.{arith}
 use mathlib.Core.Path.{_≡_, refl, sym, ap, _∙_}
 use mathlib.Core.Logic.{_↔_, inl, inr}
-use mathlib.Core.Bool.{Bool, true, false, cond, not, _&&_, true≢false, false≢true}
-use mathlib.Core.List.{List, [], _∷_, _++_, append-nil}
+use mathlib.Core.Bool.{Bool, true, false, not, true≢false, false≢true}
+use mathlib.Core.List.{List, [], _∷_, _++_}
 use lib.Dec.{eqb}
 use borrow.Author.Tests.{eqb-false, not-true}
 use Rattle.clock_time.specs.Errors.{Answer, accepted, refused, Check, given, checked}
 use Rattle.clock_time.specs.Exit.{Exit, exit, leaves}
 use Rattle.clock_time.specs.Order.{Line, numbersOf, Gives, NoneHolds}
 use Rattle.clock_time.specs.Called.{Called, statusOf, calledAnswer, calledMemory, calledBoth, andThen, leaving}
-use Rattle.clock_time.proofs.ErrorLaws.{apart, accepted-passes, passes-accepted}
-use Rattle.clock_time.proofs.OrderLaws.{Agree, refused-exactly, passes-none, none-passes}
+use Rattle.clock_time.proofs.ErrorLaws.{apart, accepted-passes, passes-accepted, follows}
+use Rattle.clock_time.proofs.OrderLaws.{Agree, refused-exactly, passes-none, none-passes, positive}
 use Rattle.clock_time.proofs.Tests.{both}
 use Rattle.demands.specs.Refusals.{tests, RefusesInOrder, RefusesAndKeeps, CallRefusesAndKeeps}
 
@@ -100,24 +100,6 @@ decided-after {lines} {old} {e} first test a holds stops goes = go test refl
         }
 
 -- ---- one after another
--- two functions of an answer that make the same of a refusal, and of what checks and then more checks give
-module _ {A B X : Type 0} (a : A) (b : B) (ds : List Check) (f : Answer A → X) (g : Answer B → X)
-    (stops : (n : ℕ) → f (refused n) ≡ g (refused n)) (goes-on : f (accepted a) ≡ g (checked ds b)) where
-  follows : (cs : List Check) → f (checked cs a) ≡ g (checked (cs ++ ds) b)
-  follows [] = goes-on
-  follows (c ∷ cs) = branch (c .fails) (follows cs)
-    where
-      branch : (t : Bool) → f (checked cs a) ≡ g (checked (cs ++ ds) b)
-          → f (cond t (refused (c .number)) (checked cs a)) ≡ g (cond t (refused (c .number)) (checked (cs ++ ds) b))
-      branch true later = stops (c .number)
-      branch false later = later
-
--- what is made of an accepted value changes no check
-module _ {A B : Type 0} (f : Answer A → Answer B) (g : A → B)
-    (on-accepted : (a : A) → f (accepted a) ≡ accepted (g a)) (on-refused : (n : ℕ) → f (refused n) ≡ refused n) where
-  pub checked-map : (cs : List Check) (a : A) → f (checked cs a) ≡ checked cs (g a)
-  checked-map cs a = rw append-nil at (follows a (g a) [] f (λ x. x) on-refused (on-accepted a) cs)
-
 -- what goes on with an accepted value has the checks of both
 module _ {A B : Type 0} (a : A) (b : B) (ds : List Check) where
   pub then-checked : (go : A → Answer B) → go a ≡ checked ds b → (cs : List Check)
@@ -129,11 +111,6 @@ module _ {A B : Type 0} (a : A) (b : B) (ds : List Check) where
   then-leaves old new go e = follows a b ds (λ x. leaving old x go) (leaves old new) (λ n. refl) e
 
 -- ---- calls from C
--- none of the numbers is 0
-abbrev pub positive : List ℕ → Bool
-positive [] = true
-positive (n ∷ ns) = not (eqb n 0) && positive ns
-
 status-number : {A : Type 0} (a : Answer A) (n : ℕ) → statusOf a ≡ suc n → a ≡ refused (suc n)
 status-number (accepted a) n h = absurd (omega (arith, h))
 status-number (refused k) n h = ap refused h
@@ -141,11 +118,6 @@ status-number (refused k) n h = ap refused h
 status-refused : {A : Type 0} (a : Answer A) → (statusOf a ≡ 0 → ⊥) → (n : ℕ) × (a ≡ refused n)
 status-refused (accepted a) none = absurd (none refl)
 status-refused (refused k) none = (k, refl)
-
-pub positive-append : (ns ms : List ℕ) → positive ns ≡ true → positive ms ≡ true → positive (ns ++ ms) ≡ true
-positive-append [] ms p q = q
-positive-append (n ∷ ns) ms p q =
-    let w = both (not (eqb n 0)) (positive ns) p in simp (w .0, positive-append ns ms (w .1) q)
 
 gives-positive : (ls : List Line) (n : ℕ) → positive (numbersOf ls) ≡ true → Gives ls n → n ≡ 0 → ⊥
 gives-positive [] n p h e = h

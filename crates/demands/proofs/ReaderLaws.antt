@@ -18,7 +18,7 @@ use Rattle.clock_time.proofs.Tests.{both}
 use Rattle.time_string.specs.Row.{TellingByte, anyByte, letterD, otherByte, kindRow, allKinds}
 use Rattle.time_string.specs.Kind.{isTelling, isTold, firstTold, kindOf, kindNumber, namedKind, kindNamed, readAs}
 use Rattle.time_string.specs.Accepted.{Telling, TellsKind}
-use Rattle.time_string.proofs.KindLaws.{kind-told, kind-unknown}
+use Rattle.time_string.proofs.KindLaws.{kind-laws, kind-unknown}
 use Rattle.time_string.specs.declared.Kind.{Kind}
 use Rattle.time_string.specs.declared.Kind.the-variants.{Standard}
 use Rattle.c_numbers.specs.Numbers.{putAnswer}
@@ -26,7 +26,7 @@ use Rattle.c_numbers.proofs.NumberLaws.{put-no-room, put-room}
 use Rattle.c_readings.specs.Strings.{kindNumberOf, readNumbered}
 use Rattle.demands.specs.Accepted.{AcceptsNumbered}
 use Rattle.demands.specs.Exactly.{ReadsExactly, CallAnswersExactly, CallReadsExactly}
-use Rattle.demands.proofs.KindLaws.{kind-laws}
+use Rattle.demands.proofs.KindLaws.{kind-exactly}
 
 -- ---- the kind of a string
 telling : (b : TellingByte) (s : List ℕ) → isTelling b s ≡ true → Telling b s
@@ -48,7 +48,7 @@ tells-first s kind (k ∷ ks) h = go (isTold (kindRow k) s) refl h (tells-first 
 
 pub tells-exactly : (s : List ℕ) → ReadsExactly (TellsKind s) (kindOf s)
 unfolding kindOf
-tells-exactly s kind = (tells-first s kind allKinds, kind-told kind .told s)
+tells-exactly s kind = (tells-first s kind allKinds, kind-laws kind .told s)
 
 -- one answer after another
 module _ {A B : Type 0} {P : A → Type 0} {Q : A → B → Type 0} (go : A → Answer B)
@@ -92,7 +92,7 @@ number-named n e = let h = number-at 0 allKinds refl n (leb-false _ _ e) in omeg
 
 pub named-exactly : (n : ℕ) → ReadsExactly (λ kind. n ≡ kindNumber kind) (kindNamed n)
 unfolding kindNamed
-named-exactly n kind = (named, λ e. rw e (kind-told kind .named))
+named-exactly n kind = (named, λ e. rw e (kind-laws kind .named))
   where
     named : kindNamed n ≡ accepted kind → n ≡ kindNumber kind
     named h =
@@ -113,7 +113,7 @@ unknown-exactly n = (
 pub numbered-exactly : (n : ℕ) (s : List ℕ) → ReadsExactly (AcceptsNumbered n s) (readNumbered n s)
 unfolding readNumbered readAs
 numbered-exactly n s =
-    then-exactly (λ kind. readAs kind s) (λ kind. kind-laws kind .exactly s) (kindNamed n) (named-exactly n)
+    then-exactly (λ kind. readAs kind s) (λ kind. kind-exactly kind s) (kindNamed n) (named-exactly n)
 
 -- ---- what a call leaves
 -- behind a pointer; no refusal has the number 0

@@ -11,18 +11,13 @@ use Rattle.gregorian.specs.Rules.{GregorianDate}
 use Rattle.calendar.specs.Rules.{ValidReading}
 use Rattle.dcf77.specs.Lines.{minuteLines}
 use Rattle.dcf77_outcome.specs.RunNumber.{HasMinute}
-use Rattle.time_string.specs.Row.{Shape, withoutPosition, withPosition, kindRow}
+use Rattle.time_string.specs.Row.{kindRow}
 use Rattle.time_string.specs.Kind.{kindNumber, namedKind}
 use Rattle.time_string.specs.declared.Kind.{Kind}
-use Rattle.c_numbers.specs.Numbers.{timeNumbers, timeCount, gpsCount, minuteCount}
+use Rattle.c_numbers.specs.Numbers.{timeNumbers, timeCount, minuteCount}
 use Rattle.demands.specs.Accepted.{AcceptsNumbers}
 
 -- ---- the orders
--- "Order for text: 1, 2, 3, 4, 8, 9, 5, 6, 7." (01, Refusal numbers): `own` stands for 8 and 9, both for GPS, none for
--- the other kinds
-abbrev pub textOrder : List ℕ → List ℕ
-textOrder own = 1 ∷ 2 ∷ 3 ∷ 4 ∷ own ++ (5 ∷ 6 ∷ 7 ∷ [])
-
 -- a kind's own numbers
 abbrev pub ownNumbers : Kind → List ℕ
 ownNumbers kind = kindRow kind .own
@@ -92,14 +87,9 @@ dateLines year month day = line 5 ((1970 ≤ year) × (year ≤ 2069) × Gregori
 abbrev pub unknownKind : ℕ → Line
 unknownKind n = line 1 ((kind : Kind) → n ≡ kindNumber kind → ⊥)
 
--- how many numbers a reading has, with a position and without
-abbrev pub shapeCount : Shape → ℕ
-shapeCount withoutPosition = timeCount
-shapeCount withPosition = gpsCount
-
 -- how many numbers a reading of a kind has
 abbrev pub numberCount : Kind → ℕ
-numberCount kind = shapeCount (kindRow kind .shape)
+numberCount kind = length (kindRow kind .ranges)
 
 -- 20: "lent memory: [..] a buffer too short to write to" (01, Refusal numbers): fewer numbers are lent than are
 -- to be put
@@ -111,7 +101,8 @@ noRoomFor count fields = line 20 (length fields < count)
 abbrev pub readLines : ℕ → List ℕ → List ℤ → List Line
 readLines n s fields = unknownKind n ∷ linesAs (namedKind n) s ++ (noRoomFor (numberCount (namedKind n)) fields ∷ [])
 
--- the kind, and then the lines of a writer of these numbers: without a kind there is no format that could refuse
+-- the kind, and then the lines of a writer of these numbers: without a kind there is no format that could refuse, so 1
+-- comes first
 abbrev pub writeLines : ℕ → List ℤ → List ℕ → List Line
 writeLines n z buffer = unknownKind n ∷ writerLines (λ s. AcceptsNumbers n s z) buffer
 

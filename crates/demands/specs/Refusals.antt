@@ -1,4 +1,4 @@
--- Demand 1 of an answer: refusals in the order of a table's lines, and what was lent kept.
+-- Demand 1 of an answer: refusals in the order of a table's lines, and lent memory kept.
 use Prim.Native.Nat.{ℕ, suc}
 use mathlib.Core.Path.{_≡_}
 use mathlib.Core.Logic.{_↔_}

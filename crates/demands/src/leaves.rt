@@ -24,7 +24,8 @@ ghost use Rattle.meinberg_gps_position.specs.Rules.{PositionRules, SaysPosition
 ghost use Rattle.listing_lines.specs.Line.{timeLine, writeLine};
 ghost use Rattle.listing_lines.specs.Totals.{totalsLine, writeTotals};
 ghost use Rattle.c_fields.specs.Numbered.{numberedTime, numberedGps, numberedMinute};
-ghost use Rattle.c_fields.specs.Ranges.{timeRanges, gpsRanges, minuteRanges, fits, fitsAll};
+ghost use Rattle.clock_time.specs.FieldRanges.{timeRanges, gpsRanges};
+ghost use Rattle.c_fields.specs.Ranges.{minuteRanges, fits, fitsAll};
 ghost use Rattle.c_fields.specs.Ranges.{firstTimeOf, timeOf, gpsOf, minuteOf};
 ghost use Rattle.demands.specs.Refusals.{tests, RefusesInOrder, RefusesAndKeeps};
 ghost use Rattle.demands.specs.Lines.{writeLines, writerLines};

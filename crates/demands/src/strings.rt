@@ -22,7 +22,8 @@ ghost use Rattle.elv_dcf7000.specs.Lines.{elvLines};
 ghost use Rattle.time_string.specs.Kind.{kindAnswer, timeAnswer};
 ghost use Rattle.time_string.specs.Accepted.{TellsKind, AcceptsAs};
 ghost use Rattle.demands.specs.Refusals.{RefusesInOrder, RefusesAndKeeps};
-ghost use Rattle.demands.specs.Lines.{textOrder, ownNumbers, kindLines, linesAs, writerLines};
+ghost use Rattle.time_string.specs.Row.{textOrder};
+ghost use Rattle.demands.specs.Lines.{ownNumbers, kindLines, linesAs, writerLines};
 ghost use Rattle.demands.specs.Exactly.{ReadsExactly, WritesExactly};
 
 fn kind_of(s: &[u8]) -> KindAnswer

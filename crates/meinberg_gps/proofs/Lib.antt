@@ -5,4 +5,5 @@ pub mod FieldsLaws
 pub mod AcceptLaws
 pub mod SaysLaws
 pub mod GpsLaws
+pub mod FitsLaws
 pub mod Theorems

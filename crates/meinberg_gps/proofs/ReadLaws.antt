@@ -2,10 +2,11 @@
 use Prim.Native.Nat.{ℕ}
 use mathlib.Core.Path.{_≡_, refl, _∙_}
 use mathlib.Core.Bool.{Bool, true, false, cond}
-use mathlib.Core.List.{List, [], _∷_}
-use Rattle.clock_time.specs.Errors.{Answer, accepted, refused, Check, checked}
+use mathlib.Core.List.{List}
+use Rattle.clock_time.specs.Errors.{Answer, accepted, refused, checked}
 use Rattle.clock_time.specs.declared.ClockTime.{ClockTime}
 use Rattle.clock_time.specs.declared.Position.{Position}
+use Rattle.clock_time.proofs.ErrorLaws.{checked-map}
 use Rattle.layout.specs.Layout.{FitsLayout}
 use Rattle.layout.specs.Text.{supportedDay, clockChecks}
 use Rattle.layout.proofs.TextLaws.{laterChecks, read-fitting}
@@ -19,19 +20,6 @@ abbrev pub placed : Position → Answer ClockTime → Answer GpsTime
 placed p (accepted t) = accepted (record { time = t; position = p })
 placed p (refused k) = refused k
 
-checked-placed : (p : Position) (ks : List Check) (t : ClockTime)
-    → placed p (checked ks t) ≡ checked ks (record { time = t; position = p })
-checked-placed p [] t = refl
-checked-placed p (k ∷ ks) t = go (k .fails) (checked-placed p ks t)
-  where
-    after : Answer GpsTime
-    after = checked ks (record { time = t; position = p })
-
-    go : (u : Bool) → placed p (checked ks t) ≡ after
-        → placed p (cond u (refused (k .number)) (checked ks t)) ≡ cond u (refused (k .number)) after
-    go true h = refl
-    go false h = h
-
 -- what the position read as is the answer, or else the clock time is left to check
 abbrev pub afterPosition : List ℕ → Answer Position → Answer GpsTime
 afterPosition s (accepted p) = readClock s p
@@ -40,7 +28,9 @@ afterPosition s (refused k) = refused k
 pub read-clock : (s : List ℕ) (p : Position) {t : ClockTime} {m : Bool} {r : Answer ClockTime} → t ≡ clockOf s
     → m ≡ leapMismatch s → r ≡ checked (clockChecks (supportedDay t) t m) t → placed p r ≡ readClock s p
 read-clock s p e f h =
-    rw (h, e, f) (checked-placed p (clockChecks (supportedDay (clockOf s)) (clockOf s) (leapMismatch s)) (clockOf s))
+    rw (h, e, f)
+    (checked-map (placed p) (λ t. record { time = t; position = p }) (λ t. refl) (λ k. refl)
+    (clockChecks (supportedDay (clockOf s)) (clockOf s) (leapMismatch s)) (clockOf s))
 
 module _ {s : List ℕ} (fit : FitsLayout gpsLayout s) where
   read-fits : readGps s ≡ checked (laterChecks gps s) (gpsFields s)

@@ -6,6 +6,7 @@ use mathlib.Core.Bool.{true, _&&_}
 use mathlib.Core.List.{List}
 use lib.ListN.{length}
 use Rattle.clock_time.specs.Errors.{accepted, refused}
+use Rattle.clock_time.specs.FieldRanges.{FitsPosition}
 use Rattle.clock_time.specs.Order.{Gives}
 use Rattle.clock_time.specs.Faithful.{Faithful}
 use Rattle.calendar.specs.UnixTime.{isReading}
@@ -21,6 +22,7 @@ use Rattle.meinberg_gps.specs.Says.{gpsPicture, RulesGps, SaysGps}
 use Rattle.meinberg_gps.specs.Lines.{gpsLines}
 use Rattle.meinberg_gps.specs.declared.GpsTime.{GpsTime}
 use Rattle.meinberg_gps.proofs.FieldsLaws.{text-fields, sameGps-refl, sameGps-true}
+use Rattle.meinberg_gps.proofs.FitsLaws as fits
 use Rattle.meinberg_gps.proofs.SaysLaws.{in-words}
 use Rattle.meinberg_gps.proofs.GpsLaws.{gpsRepresentable, decides}
 
@@ -53,6 +55,10 @@ long = refl
 pub valid-read : (s : List ℕ) (g : GpsTime) → readGps s ≡ accepted g → isReading (g .time) ≡ true
 unfolding readGps writtenGps gps
 valid-read = valid-answer writtenGps gpsRepresentable decides
+
+-- and the numbers of its position fit their fields
+pub position-fits : (s : List ℕ) (g : GpsTime) → readGps s ≡ accepted g → FitsPosition (g .position)
+position-fits = fits.position-fits
 
 -- read exactly what is written: as g, the text of g and no other string, if g is a valid reading at a position that it
 -- can represent

@@ -1,7 +1,8 @@
 -- The kinds of time strings: one row a kind.
 use Prim.Native.Nat.{ℕ}
-use mathlib.Core.List.{List, [], _∷_}
+use mathlib.Core.List.{List, [], _∷_, _++_}
 use Rattle.clock_time.specs.Errors.{Answer, accepted, refused}
+use Rattle.clock_time.specs.FieldRanges.{Range, timeRanges, gpsRanges}
 use Rattle.clock_time.specs.Order.{Line}
 use Rattle.clock_time.specs.declared.ClockTime.{ClockTime}
 use Rattle.layout.specs.Text.{WrittenFormat, writtenClock}
@@ -60,6 +61,11 @@ pub data TellingByte : Type 0 where
   letterD : TellingByte
   otherByte : TellingByte
 
+-- "Order for text: 1, 2, 3, 4, 8, 9, 5, 6, 7." (01, Refusal numbers): `own` stands for 8 and 9, both for GPS, none for
+-- the other kinds
+abbrev pub textOrder : List ℕ → List ℕ
+textOrder own = 1 ∷ 2 ∷ 3 ∷ 4 ∷ own ++ (5 ∷ 6 ∷ 7 ∷ [])
+
 -- what is said of a kind of string
 pub record KindRow : Type 1 where
   -- its number in C, in the order of document 01's strings
@@ -77,6 +83,8 @@ pub record KindRow : Type 1 where
   pub lines : List ℕ → List Line
   -- 8: "offset sign or size"; 9: "position" (01, Refusal numbers): its own numbers, and only GPS strings have either
   pub own : List ℕ
+  -- how many numbers C has for a reading of this kind, and what each may be
+  pub ranges : List Range
 
 -- "66 long is GPS; 32 long is standard if place 1 holds `D`, else PZF; 21 long is ELV" (01, Meinberg and ELV strings)
 abbrev pub kindRow : Kind → KindRow
@@ -90,6 +98,7 @@ kindRow Standard =
       Accepts = AcceptsStandard;
       lines = standardLines;
       own = [];
+      ranges = timeRanges;
     }
 kindRow Pzf =
     record {
@@ -101,6 +110,7 @@ kindRow Pzf =
       Accepts = AcceptsPzf;
       lines = pzfLines;
       own = [];
+      ranges = timeRanges;
     }
 kindRow Gps =
     record {
@@ -112,6 +122,7 @@ kindRow Gps =
       Accepts = AcceptsGps;
       lines = gpsLines;
       own = 8 ∷ 9 ∷ [];
+      ranges = gpsRanges;
     }
 kindRow Elv =
     record {
@@ -123,6 +134,7 @@ kindRow Elv =
       Accepts = AcceptsElv;
       lines = elvLines;
       own = [];
+      ranges = timeRanges;
     }
 
 -- the kinds in the order of their numbers

@@ -1,6 +1,7 @@
 use lib.Dec.{lit<}
 use mir.Syntax.{w32}
-use Rattle.c_fields.specs.Ranges.{gpsFrom, timeRanges, gpsRanges}
+use Rattle.clock_time.specs.FieldRanges.{timeRanges, gpsRanges}
+use Rattle.c_fields.specs.Ranges.{gpsFrom}
 use Rattle.c_numbers.proofs.NumberLaws.{held}
 use Rattle.c_fields.proofs.RangeLaws.{fits-at, fits-first}
 use Rattle.c_fields.proofs.gps_from.Statement.{statement}

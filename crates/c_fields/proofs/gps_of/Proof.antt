@@ -1,5 +1,6 @@
 use borrow.Author.Needs.{needs}
-use Rattle.c_fields.specs.Ranges.{ranges, gpsRanges, timeRanges}
+use Rattle.clock_time.specs.FieldRanges.{gpsRanges, timeRanges}
+use Rattle.c_fields.specs.Ranges.{ranges}
 use Rattle.c_fields.proofs.RangeLaws.{all-fit, numbered-all, numbered-other}
 use Rattle.c_fields.proofs.gps_of.Statement.{statement}
 use Rattle.c_fields.proofs.gps_of.Tie as tie

@@ -1,5 +1,6 @@
 use borrow.Author.Needs.{needs}
-use Rattle.c_fields.specs.Ranges.{ranges, timeRanges}
+use Rattle.clock_time.specs.FieldRanges.{timeRanges}
+use Rattle.c_fields.specs.Ranges.{ranges}
 use Rattle.c_fields.proofs.is_time.Statement.{statement}
 use Rattle.c_fields.proofs.is_time.Tie as tie
 

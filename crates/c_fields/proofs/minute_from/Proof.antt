@@ -1,5 +1,6 @@
 use lib.Dec.{lit<}
-use Rattle.c_fields.specs.Ranges.{minuteFrom, timeRanges, minuteRanges}
+use Rattle.clock_time.specs.FieldRanges.{timeRanges}
+use Rattle.c_fields.specs.Ranges.{minuteFrom, minuteRanges}
 use Rattle.c_fields.proofs.RangeLaws.{fits-at, fits-first}
 use Rattle.c_fields.proofs.minute_from.Statement.{statement}
 use Rattle.c_fields.proofs.minute_from.Tie as tie

@@ -1,5 +1,6 @@
 use borrow.Author.Needs.{needs}
-use Rattle.c_fields.specs.Ranges.{ranges, minuteRanges, timeRanges}
+use Rattle.clock_time.specs.FieldRanges.{timeRanges}
+use Rattle.c_fields.specs.Ranges.{ranges, minuteRanges}
 use Rattle.c_fields.proofs.RangeLaws.{all-fit, numbered-all, numbered-other}
 use Rattle.c_fields.proofs.minute_of.Statement.{statement}
 use Rattle.c_fields.proofs.minute_of.Tie as tie

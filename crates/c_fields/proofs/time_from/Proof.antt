@@ -5,7 +5,8 @@ use denote.Ref.{now}
 use lib.Dec.{T, ltb, lit<}
 use lib.ListN.{length, getD}
 use mir.Syntax.{w16}
-use Rattle.c_fields.specs.Ranges.{timeFrom, timeRanges, upTo, within, at}
+use Rattle.clock_time.specs.FieldRanges.{timeRanges, upTo, within}
+use Rattle.c_fields.specs.Ranges.{timeFrom, at}
 use Rattle.c_numbers.proofs.NumberLaws.{held}
 use Rattle.c_fields.proofs.RangeLaws.{fits-at}
 use Rattle.c_fields.proofs.time_from.Statement.{statement}

@@ -1,5 +1,5 @@
 use borrow.Author.Needs.{needs}
-use Rattle.c_fields.specs.Ranges.{timeRanges}
+use Rattle.clock_time.specs.FieldRanges.{timeRanges}
 use Rattle.c_fields.proofs.RangeLaws.{all-fit, numbered-all, numbered-other}
 use Rattle.c_fields.proofs.time_of.Statement.{statement}
 use Rattle.c_fields.proofs.time_of.Tie as tie

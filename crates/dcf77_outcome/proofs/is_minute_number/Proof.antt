@@ -1,4 +1,3 @@
-use borrow.Author.Needs.{needs}
 use mathlib.Core.Path.{sym}
 use Rattle.dcf77_outcome.specs.Instant.{isMinuteNumber}
 use Rattle.dcf77_outcome.proofs.InstantLaws.{number-out, number-in, number-range}

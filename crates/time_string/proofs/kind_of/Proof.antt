@@ -7,7 +7,7 @@ use lib.ListN.{length}
 use Rattle.time_string.specs.Row.{kindRow}
 use Rattle.time_string.specs.declared.Kind.{Kind}
 use Rattle.time_string.specs.declared.Kind.the-variants.{Standard, Pzf, Gps, Elv}
-use Rattle.time_string.proofs.KindLaws.{kind-told, untold}
+use Rattle.time_string.proofs.KindLaws.{kind-laws, untold}
 use Rattle.time_string.proofs.kind_of.Statement.{statement}
 use Rattle.time_string.proofs.kind_of.Tie as tie
 
@@ -27,7 +27,7 @@ returns-5 c = sym (untold s none)
 pub kind-of-spec : {M : Type 1} → statement M
 kind-of-spec =
     tie.close
-    (tie.spec (λ c. sym (kind-told Gps .told _ (c .if1 .taken, tt))) (λ c. search needs)
-    (λ c. sym (kind-told Standard .told _ (c .before .before .if2 .taken, c .if3 .taken)))
-    (λ c. sym (kind-told Pzf .told _ (c .before .before .if2 .taken, c .if3 .left)))
-    (λ c. sym (kind-told Elv .told _ (c .if4 .taken, tt))) returns-5)
+    (tie.spec (λ c. sym (kind-laws Gps .told _ (c .if1 .taken, tt))) (λ c. search needs)
+    (λ c. sym (kind-laws Standard .told _ (c .before .before .if2 .taken, c .if3 .taken)))
+    (λ c. sym (kind-laws Pzf .told _ (c .before .before .if2 .taken, c .if3 .left)))
+    (λ c. sym (kind-laws Elv .told _ (c .if4 .taken, tt))) returns-5)

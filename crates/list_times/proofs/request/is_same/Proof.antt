@@ -2,7 +2,6 @@
 use Prim.Native.Nat.{_≤_, _-_}
 use native.Mathlib.Omega.{arith}
 use mathlib.Core.Path.{_≡_, refl, sym, _∙_}
-use borrow.Author.Needs.{needs}
 use lib.ListN.{length, drop}
 use Rattle.list_times.specs.Request.{isSame}
 use Rattle.list_times.proofs.RequestLaws.{same-lengths, same-differs, same-agrees, same-ends}

@@ -60,7 +60,7 @@ pub position-parts : (p : Position) {x y : ℤ} {n e h : List ℕ} → n ≡ ang
     → e ≡ angleText longitude y → h ≡ aligned 4 (p .height) → x ≡ p .latitude → y ≡ p .longitude
     → slice 1 8 n ++ ascii " " ++ slice 0 9 e ++ ascii " " ++ slice 0 4 h ≡ positionText p
 unfolding positionText angleBytes aligned padded digits ascii
-position-parts p a b c north east = rw (a, b, c, north, east)
+position-parts p a b c same-latitude same-longitude = rw (a, b, c, same-latitude, same-longitude)
 
 module _ (p : Position) (s : List ℕ) (e : slice 41 23 s ≡ positionText p) where
   latitude-spelled : Spelled latitude (p .latitude) s
@@ -85,10 +85,10 @@ pub position-read : (p : Position) → positionRepresentable p ≡ true → (s :
     → PositionRead p s
 unfolding positionRepresentable positionFault positionDigits positionOf
 position-read p h s e =
-    let north = leb (natAbs (p .latitude)) 900000 in
-    let east = leb (natAbs (p .longitude)) 1800000 in
-    let w = both (north && east) (leb (p .height) 9999) h in
-    let v = both north east (w .0) in
+    let small-latitude = leb (natAbs (p .latitude)) 900000 in
+    let small-longitude = leb (natAbs (p .longitude)) 1800000 in
+    let w = both (small-latitude && small-longitude) (leb (p .height) 9999) h in
+    let v = both small-latitude small-longitude (w .0) in
     let high : p .height < 10 ^ 4 = omega (arith, leb-true (p .height) 9999 (w .1)) in
     let n =
     angle-read latitude (lit< tt) (lit< tt) refl (p .latitude) (leb-true _ _ (v .0)) s (latitude-spelled p s e) in

@@ -13,7 +13,7 @@ use Rattle.decimal.specs.Decimal.{digits}
 use Rattle.vectors.specs.DigitRun.{writeDigits}
 use Rattle.decimal.proofs.DecimalLaws.{length-digits, value-digits, digits-are-digits, value-below}
 use Rattle.vectors.proofs.ReadLaws.{Reads}
-use Rattle.clock_time.proofs.WritingLaws.{writing-unreadable, writing-no-room, writing-room}
+use Rattle.clock_time.proofs.WritingLaws.{writing-unrepresentable, writing-no-room, writing-room}
 use Rattle.clock_time.proofs.WritingLaws.{writing-not-23, writing-accepted}
 
 -- at most 19 digits, and enough of them for n
@@ -44,7 +44,7 @@ module _ (n k : ℕ) (d : List ℕ) where
       go : (t : Bool) → (leb k 19 && ltb n (10 ^ k)) ≡ t
           → record { answer = refused 23; memory = d } ≡ writeDigits n k d
       go true e = absurd (none (test-writable n k e))
-      go false e = rw e (writing-unreadable (digits k n) d)
+      go false e = rw e (writing-unrepresentable (digits k n) d)
 
   pub written : (m : ℕ) → writeDigits n k d .answer ≡ accepted m
       → Writable n k × (m ≡ k) × (writeDigits n k d .memory ≡ digits k n ++ drop k d)

@@ -24,12 +24,11 @@ use Rattle.dcf77_outcome.proofs.Theorems.{minute-number-exactly}
 use Rattle.recording.specs.Recording.{unfit, correctionChecks}
 use Rattle.dcf77.specs.Lines.{minuteLines}
 use Rattle.time_string.specs.Row.{textOrder}
-use Rattle.time_string.specs.Kind.{namedKind}
+use Rattle.time_string.specs.declared.Kind.{Kind}
 use Rattle.time_string.proofs.KindLaws.{kind-laws, untold}
 use Rattle.demands.specs.Lines.{linesAs, kindLines, outcomeLines, fillLines, correctionLines, instantLines}
 use Rattle.demands.specs.Lines.{dateLines, numberCount, readLines, readMinuteLines, feedLines}
 use Rattle.demands.specs.Lines.{ownNumbers, noRoomFor, outcomeTimeLines}
-use Rattle.demands.proofs.ReaderLaws.{unknown-exactly}
 use Rattle.demands.proofs.Checks.{checksAs, kindChecks, roomCheck, readChecks, readMinuteChecks}
 
 -- ---- strings and minutes
@@ -75,21 +74,18 @@ date-agrees year month day = (refl, not-exactly _ (supported-exactly year month 
 pub room-agrees : (count : ℕ) (fields : List ℤ) → Agree (roomCheck count fields ∷ []) (noRoomFor count fields ∷ [])
 room-agrees count fields = (refl, lt-exactly _ _, λ p. tt)
 
-pub read-agrees : (n : ℕ) (s : List ℕ) (fields : List ℤ) → Agree (readChecks n s fields) (readLines n s fields)
-read-agrees n s fields = (
-  refl,
-  unknown-exactly n,
-  λ p. agree-append (checksAs (namedKind n) s) (linesAs (namedKind n) s) _ _ (kind-laws (namedKind n) .row .agree s)
-      (λ q. room-agrees (numberCount (namedKind n)) fields),
-)
+pub read-agrees : (kind : Kind) (s : List ℕ) (fields : List ℤ) → Agree (readChecks kind s fields) (readLines kind s fields)
+read-agrees kind s fields =
+    agree-append (checksAs kind s) (linesAs kind s) _ _ (kind-laws kind .row .agree s)
+    (λ q. room-agrees (numberCount kind) fields)
 
 numbers-append : (ks ls : List Line) → numbersOf (ks ++ ls) ≡ numbersOf ks ++ numbersOf ls
 numbers-append [] ls = refl
 numbers-append (k ∷ ks) ls = ap (λ (ns : List ℕ). k .number ∷ ns) (numbers-append ks ls)
 
-pub read-numbers : (n : ℕ) (s : List ℕ) (fields : List ℤ)
-    → numbersOf (readLines n s fields) ≡ 1 ∷ textOrder (ownNumbers (namedKind n)) ++ (20 ∷ [])
-read-numbers n s fields = rw (numbers-append (linesAs (namedKind n) s), kind-laws (namedKind n) .row .order s)
+pub read-numbers : (kind : Kind) (s : List ℕ) (fields : List ℤ)
+    → numbersOf (readLines kind s fields) ≡ textOrder (ownNumbers kind) ++ (20 ∷ [])
+read-numbers kind s fields = rw (numbers-append (linesAs kind s), kind-laws kind .row .order s)
 
 pub read-minute-agrees : (m : List ℕ) (fields : List ℤ) → Agree (readMinuteChecks m fields) (readMinuteLines m fields)
 read-minute-agrees m fields =

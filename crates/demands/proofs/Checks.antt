@@ -10,7 +10,7 @@ use Rattle.clock_time.specs.Errors.{Answer, accepted, refused, Check, given}
 use Rattle.dcf77.specs.Minute.{minuteChecks}
 use Rattle.layout.specs.Text.{textChecks}
 use Rattle.time_string.specs.Row.{Reading, asReading, kindRow, allKinds}
-use Rattle.time_string.specs.Kind.{kindOf, namedKind}
+use Rattle.time_string.specs.Kind.{kindOf}
 use Rattle.time_string.specs.declared.Kind.{Kind}
 use Rattle.demands.specs.Lines.{numberCount}
 
@@ -35,8 +35,8 @@ kindCheck n = given 1 (leb (length allKinds) n)
 abbrev pub roomCheck : ℕ → List ℤ → Check
 roomCheck count fields = given 20 (ltb (length fields) count)
 
-abbrev pub readChecks : ℕ → List ℕ → List ℤ → List Check
-readChecks n s fields = kindCheck n ∷ checksAs (namedKind n) s ++ (roomCheck (numberCount (namedKind n)) fields ∷ [])
+abbrev pub readChecks : Kind → List ℕ → List ℤ → List Check
+readChecks kind s fields = checksAs kind s ++ (roomCheck (numberCount kind) fields ∷ [])
 
 abbrev pub readMinuteChecks : List ℕ → List ℤ → List Check
 readMinuteChecks m fields = minuteChecks m ++ (roomCheck minuteCount fields ∷ [])

@@ -3,14 +3,14 @@
 -- byte or number of the memory we lent." That a function ends, on any input, is part of every function's proof. The
 -- functions in src/ have these statements as their contracts.
 use Prim.Native.Nat.{ℕ}
-use mathlib.Core.Path.{refl}
+use mathlib.Core.Path.{_≡_, refl}
 use mathlib.Core.Bool.{Bool, not}
 use mathlib.Core.List.{List, [], _∷_, _++_}
 use lib.Dec.{leb, ltb}
 use lib.ListN.{length}
 use lib.IntN.{ℤ}
 use Rattle.clock_time.specs.Errors.{Check, given, checked}
-use Rattle.clock_time.specs.Called.{calledAnswer, calledMemory, calledBoth}
+use Rattle.clock_time.specs.Called.{called, calledAnswer, calledMemory, calledBoth}
 use Rattle.clock_time.specs.Writing.{writing}
 use Rattle.clock_time.specs.FieldRanges.{timeRanges, gpsRanges}
 use Rattle.clock_time.specs.declared.ClockTime.{ClockTime}
@@ -53,7 +53,7 @@ use Rattle.meinberg_gps_position.specs.Position.{positionFault, positionOf, rea
 use Rattle.meinberg_gps_position.specs.Rules.{positionLines}
 use Rattle.meinberg_gps_position.proofs.Theorems as positions
 use Rattle.time_string.specs.Row.{textOrder, kindRow}
-use Rattle.time_string.specs.Kind.{kindOf, namedKind, readAs}
+use Rattle.time_string.specs.Kind.{kindOf, kindNumber, readAs}
 use Rattle.time_string.specs.declared.Kind.{Kind}
 use Rattle.time_string.proofs.KindLaws.{kind-laws}
 use Rattle.recording.specs.Recording.{rule, unfit, outcomeAt, fillOutcomes, recorded, correctionChecks, correctMark}
@@ -64,6 +64,7 @@ use Rattle.c_fields.specs.Ranges.{minuteRanges, fits, fitsAll, timeFrom, gpsFro
 use Rattle.c_fields.specs.Ranges.{numbered, firstTimeOf, timeOf, gpsOf, minuteOf}
 use Rattle.c_writer.specs.Writers.{writeFrom, writeMinuteFrom}
 use Rattle.c_readings.specs.Strings.{kindNumberOf, readInto, unixTimeOf}
+use Rattle.c_numbers.specs.Numbers.{putAnswer}
 use Rattle.c_readings.specs.Minutes.{readMinuteInto}
 use Rattle.c_readings.specs.Trimble.{readTrimbleInto}
 use Rattle.c_feed.specs.Feed.{FeedMemory, feedInto}
@@ -80,6 +81,7 @@ use Rattle.demands.proofs.OrderLaws.{ordered, by-tests, keeps, decided,
 use Rattle.demands.proofs.OrderLaws.{from-answer, from-memory, from-both}
 use Rattle.demands.proofs.WriterLaws.{settled, writer-keeps}
 use Rattle.demands.proofs.NumbersLaws.{from-decided, minute-settled}
+use Rattle.demands.proofs.ReaderLaws.{unknown-exactly}
 use Rattle.demands.proofs.EntryLaws as entry
 use Rattle.demands.proofs.AgreeLaws as agrees
 use Rattle.demands.proofs.InstantLaws as instants
@@ -211,17 +213,22 @@ c-kind old s =
     from-answer _ _ refl old (kindNumberOf s)
     (ordered _ (kindChecks s) (kindLines s) (agrees.kind-agrees s) (kindNumberOf s) (entry.kind-number-checks s))
 
--- 1 stands twice, for an unknown kind and for a wrong length
-pub c-read : (n : ℕ) (s : List ℕ) (fields : List ℤ) →
-    CallRefusesAndKeeps (readLines n s fields) (1 ∷ textOrder (ownNumbers (namedKind n)) ++ (20 ∷ [])) fields
-    (calledMemory (readInto n s fields))
-c-read n s fields =
-    from-memory (readLines n s fields) _
-    (positive-append (textOrder (ownNumbers (namedKind n))) (20 ∷ []) (kind-laws (namedKind n) .row .above-0) refl) fields
-    (readInto n s fields)
-    (rw (← (agrees.read-numbers n s fields))
+pub c-read : (kind : Kind) (s : List ℕ) (fields : List ℤ) →
+    CallRefusesAndKeeps (readLines kind s fields) (textOrder (ownNumbers kind) ++ (20 ∷ [])) fields
+    (calledMemory (readInto (kindNumber kind) s fields))
+c-read kind s fields =
+    from-memory (readLines kind s fields) _
+    (positive-append (textOrder (ownNumbers kind)) (20 ∷ []) (kind-laws kind .row .above-0) refl) fields
+    (readInto (kindNumber kind) s fields)
+    (rw (← (agrees.read-numbers kind s fields))
     (keeps
-    (decided (readChecks n s fields) _ _ _ _ _ (agrees.read-agrees n s fields) (entry.read-checks n s fields))))
+    (decided (readChecks kind s fields) _ _ _ _ _ (agrees.read-agrees kind s fields) (entry.read-checks kind s fields))))
+
+-- "an unknown kind number from C gives 1" (01, Meinberg and ELV strings)
+pub c-read-unknown : (n : ℕ) (s : List ℕ) (fields : List ℤ) → ((kind : Kind) → n ≡ kindNumber kind → ⊥)
+    → calledMemory (readInto n s fields) ≡ called 1 fields
+unfolding readInto putAnswer
+c-read-unknown n s fields none = rw (entry.read-unknown n s (unknown-exactly n .1 none))
 
 pub c-write : (n : ℕ) (z : List ℤ) (d : List ℕ) (old : ℕ) →
     CallRefusesAndKeeps (writeLines n z d) (1 ∷ 23 ∷ 20 ∷ []) (d, old) (calledBoth old (writeFrom n z d))

@@ -3,7 +3,7 @@
 -- room enough, a writer refuses a reading exactly when nothing acceptable in that format reads as it." The functions in
 -- src/ have these statements as their contracts.
 use Prim.Native.Nat.{ℕ, _≤_}
-use mathlib.Core.Path.{_≡_, ap, _∙_}
+use mathlib.Core.Path.{_≡_, sym, ap, _∙_}
 use mathlib.Core.List.{List, _++_}
 use lib.ListN.{length, take, drop}
 use lib.IntN.{ℤ, pos, _*ℤ_}
@@ -41,7 +41,7 @@ use Rattle.elv_dcf7000.specs.Accepts.{AcceptsElv}
 use Rattle.dcf77.specs.Accepts.{AcceptsMinute}
 use Rattle.calendar.specs.Days.{DayAfter, OnWeekday}
 use Rattle.time_string.specs.Row.{Reading, readingTime}
-use Rattle.time_string.specs.Kind.{kindOf, kindNumber, namedKind, readAs}
+use Rattle.time_string.specs.Kind.{kindOf, kindNumber, readAs}
 use Rattle.time_string.specs.Accepted.{TellsKind, AcceptsAs}
 use Rattle.time_string.specs.declared.Kind.{Kind}
 use Rattle.time_string.proofs.KindLaws.{kind-laws}
@@ -167,13 +167,17 @@ c-unix-time old z = reader.call-answers old (unixTimeOf z) (never.instant-0 z) (
 
 -- "Written back, an accepted reading gives the same bytes or marks.": the numbers that a call left, as many as the kind
 -- has, are written as the string that was read
-pub c-round-trip : (n : ℕ) (s : List ℕ) (fields z : List ℤ) → calledMemory (readInto n s fields) ≡ called 0 z
+pub c-round-trip : (n : ℕ) (kind : Kind) → n ≡ kindNumber kind
+    → (s : List ℕ) (fields z : List ℤ) → calledMemory (readInto n s fields) ≡ called 0 z
     → (d : List ℕ) (old : ℕ) → length s ≤ length d
-    → calledBoth old (writeFrom n (take (numberCount (namedKind n)) z) d) ≡ called 0 (s ++ drop (length s) d, length s)
-c-round-trip n s fields z h d old room =
+    → calledBoth old (writeFrom n (take (numberCount kind) z) d) ≡ called 0 (s ++ drop (length s) d, length s)
+c-round-trip n kind e s fields z h d old room =
     let r = c-read n s fields z .0 h in
-    let count = numberCount (namedKind n) in
-    let first = ap (take count) (r .1 .2) ∙ take-at _ _ count (numbers.numbers-long n s (r .0) (r .1 .0)) in
+    let k = r .1 .0 .0 in
+    let same : k ≡ kind =
+    cc (sym (reader.named-exactly n k .1 (r .1 .0 .1 .0)) ∙ reader.named-exactly n kind .1 e) in
+    let long = numbers.numbers-long k s (r .0) (r .1 .0 .1 .1) ∙ ap numberCount same in
+    let first = ap (take (numberCount kind)) (r .1 .2) ∙ take-at _ _ (numberCount kind) long in
     c-write n _ d old .write-read s (r .0, (r .1 .0, first)) room
 
 pub c-minute-round-trip : (m : List ℕ) (fields z : List ℤ) → calledMemory (readMinuteInto m fields) ≡ called 0 z

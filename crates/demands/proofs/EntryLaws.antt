@@ -3,6 +3,7 @@ use Prim.Native.Nat.{ℕ}
 use mathlib.Core.Path.{_≡_, refl, ap, _∙_}
 use mathlib.Core.Bool.{Bool, true, false, cond, not}
 use mathlib.Core.List.{List, [], _∷_, _++_}
+use lib.Dec.{leb}
 use lib.ListN.{length, drop}
 use lib.IntN.{ℤ}
 use Rattle.clock_time.specs.Errors.{Answer, accepted, refused, given, checked}
@@ -14,6 +15,7 @@ use Rattle.time_string.specs.Row.{kindRow, allKinds}
 use Rattle.time_string.specs.Kind.{isTold, firstTold, kindOf, kindNumber, kindNamed, namedKind, readAs}
 use Rattle.time_string.specs.declared.Kind.{Kind}
 use Rattle.time_string.specs.declared.Kind.the-variants.{Standard}
+use Rattle.time_string.proofs.KindLaws.{kind-laws}
 use Rattle.dcf77.specs.Minute.{minuteChecks, minuteFields, readMinute}
 use Rattle.c_numbers.specs.Numbers.{timeNumbers, minuteNumbers, putNumbers, putAnswer, minuteCount}
 use Rattle.clock_time.specs.FieldRanges.{timeRanges}
@@ -63,13 +65,15 @@ unfolding kindNamed
 kind-named n = refl
 
 -- ---- reading strings
-pub read-numbered-checks : (n : ℕ) (s : List ℕ)
-    → readNumbered n s ≡ checked (kindCheck n ∷ checksAs (namedKind n) s) (readingAs (namedKind n) s)
-unfolding readNumbered readAs
-read-numbered-checks n s =
-    rw (kind-named n)
-    (then-checked (namedKind n) (readingAs (namedKind n) s) (checksAs (namedKind n) s) (λ kind. readAs kind s)
-    (row-checks (kindRow (namedKind n)) s) (kindCheck n ∷ []))
+-- by the number of a kind, as that kind's reader does
+pub read-named : (kind : Kind) (s : List ℕ) → readNumbered (kindNumber kind) s ≡ readAs kind s
+unfolding readNumbered
+read-named kind s = rw (kind-laws kind .named)
+
+-- by a number that names none
+pub read-unknown : (n : ℕ) (s : List ℕ) → leb (length allKinds) n ≡ true → readNumbered n s ≡ refused 1
+unfolding readNumbered
+read-unknown n s e = rw (kind-named n, e)
 
 -- numbers in front of those lent
 abbrev pub inFront : List ℤ → List ℤ → List ℤ
@@ -81,16 +85,15 @@ pub put-checks : {A : Type 0} (numbers : A → List ℤ) (fields : List ℤ) (a 
 unfolding putNumbers
 put-checks numbers fields a count e = rw e refl
 
-pub read-checks : (n : ℕ) (s : List ℕ) (fields : List ℤ) → readInto n s fields
-    ≡ leaves fields (inFront (readingNumbers (readingAs (namedKind n) s)) fields) (checked (readChecks n s fields) tt)
-unfolding readInto putAnswer
-read-checks n s fields =
-    let a = readingAs (namedKind n) s in
-    rw (read-numbered-checks n s)
-    (then-leaves a tt (roomCheck (numberCount (namedKind n)) fields ∷ []) fields (inFront (readingNumbers a) fields)
+pub read-checks : (kind : Kind) (s : List ℕ) (fields : List ℤ) → readInto (kindNumber kind) s fields
+    ≡ leaves fields (inFront (readingNumbers (readingAs kind s)) fields) (checked (readChecks kind s fields) tt)
+unfolding readInto putAnswer readAs
+read-checks kind s fields =
+    let a = readingAs kind s in
+    rw (read-named kind s, row-checks (kindRow kind) s)
+    (then-leaves a tt (roomCheck (numberCount kind) fields ∷ []) fields (inFront (readingNumbers a) fields)
     (λ x. putNumbers (readingNumbers x) fields)
-    (put-checks readingNumbers fields a (numberCount (namedKind n)) (kind-long (namedKind n) s))
-    (kindCheck n ∷ checksAs (namedKind n) s))
+    (put-checks readingNumbers fields a (numberCount kind) (kind-long kind s)) (checksAs kind s))
 
 -- ---- minutes
 pub read-minute-checks : (m : List ℕ) (fields : List ℤ) → readMinuteInto m fields

@@ -1,22 +1,24 @@
 -- No refusal has the number 0, which C takes for success.
 use Prim.Native.Nat.{ℕ}
-use mathlib.Core.Path.{_≡_, refl}
-use mathlib.Core.Bool.{not}
+use native.Mathlib.Omega.{arith}
+use mathlib.Core.Path.{_≡_, refl, sym, _∙_}
+use mathlib.Core.Bool.{Bool, true, false, not}
 use mathlib.Core.List.{List, [], _∷_}
+use lib.Dec.{leb}
+use lib.ListN.{length}
 use lib.IntN.{ℤ}
 use Rattle.clock_time.specs.Errors.{refused, given}
 use Rattle.calendar.specs.UnixTime.{instantOf}
 use Rattle.dcf77.specs.Minute.{readMinute}
 use Rattle.dcf77_outcome.specs.Instant.{outcomeUnixTime}
 use Rattle.c_fields.specs.Ranges.{timeFrom}
-use Rattle.time_string.specs.Row.{textOrder}
-use Rattle.time_string.specs.Kind.{kindNumber, namedKind}
+use Rattle.time_string.specs.Row.{allKinds}
+use Rattle.time_string.specs.Kind.{kindNumber, namedKind, readAs}
 use Rattle.time_string.proofs.KindLaws.{kind-laws}
 use Rattle.c_readings.specs.Strings.{kindNumberOf, readNumbered, unixTimeOf}
-use Rattle.demands.specs.Lines.{ownNumbers, minuteOrder, kindLines, linesAs, unknownKind}
-use Rattle.demands.specs.Lines.{instantLinesOf}
-use Rattle.demands.proofs.ReaderLaws.{unknown-exactly}
-use Rattle.demands.proofs.Checks.{checksAs, readingAs, kindCheck, kindChecks}
+use Rattle.demands.specs.Lines.{minuteOrder, kindLines, instantLinesOf}
+use Rattle.demands.proofs.ReaderLaws.{number-named}
+use Rattle.demands.proofs.Checks.{kindChecks}
 use Rattle.demands.proofs.EntryLaws as entry
 use Rattle.demands.proofs.AgreeLaws as agrees
 use Rattle.demands.proofs.InstantLaws as instants
@@ -30,14 +32,14 @@ kind-0 s =
     (entry.kind-number-checks s))
 
 pub read-0 : (n : ℕ) (s : List ℕ) → readNumbered n s ≡ refused 0 → ⊥
-read-0 n s =
-    never-0 (unknownKind n ∷ linesAs (namedKind n) s) (1 ∷ textOrder (ownNumbers (namedKind n)))
-    (kind-laws (namedKind n) .row .above-0) (readNumbered n s)
-    (rw (← (kind-laws (namedKind n) .row .order s))
-    (ordered (readingAs (namedKind n) s) (kindCheck n ∷ checksAs (namedKind n) s)
-    (unknownKind n ∷ linesAs (namedKind n) s)
-    (refl, unknown-exactly n, λ p. kind-laws (namedKind n) .row .agree s) (readNumbered n s)
-    (entry.read-numbered-checks n s)))
+read-0 n s h = go (leb (length allKinds) n) refl
+  where
+    go : (t : Bool) → leb (length allKinds) n ≡ t → ⊥
+    go true e = let z : _≡_ {A = ℕ} 1 0 = cc (sym (entry.read-unknown n s e) ∙ h) in omega (arith, z)
+    go false e =
+        let k = namedKind n in
+        never-0 _ _ (kind-laws k .row .above-0) (readAs k s) (demand-1.read-by-kind k s)
+        (sym (entry.read-named k s) ∙ (rw (number-named n e) at h))
 
 pub minute-0 : (m : List ℕ) → readMinute m ≡ refused 0 → ⊥
 minute-0 m = never-0 _ minuteOrder refl (readMinute m) (demand-1.read-minute m)

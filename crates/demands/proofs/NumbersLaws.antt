@@ -119,17 +119,15 @@ unfolding gpsNumbers
 more-numbers (time t) = ([], sym (append-nil (timeNumbers t)))
 more-numbers (timeAndPosition g) = (_, refl)
 
-module _ (n : ℕ) (s : List ℕ) (r : Reading) where
-  -- as many as the kind has
-  pub numbers-long : AcceptsNumbered n s r → length (readingNumbers r) ≡ numberCount (namedKind n)
-  numbers-long h =
-      let kind = h .0 in
-      let row = kindRow kind in
-      let read = kind-exactly kind s r .1 (h .1 .1) in
-      let w = accepted-passes (checksAs kind s) (readingAs kind s) r (sym (row-checks row s) ∙ read) in
-      rw (named-number n kind (h .1 .0) .1, w .1) (kind-long kind s)
+-- as many as the kind has
+pub numbers-long : (kind : Kind) (s : List ℕ) (r : Reading) → AcceptsAs kind s r
+    → length (readingNumbers r) ≡ numberCount kind
+numbers-long kind s r h =
+    let read = kind-exactly kind s r .1 h in
+    let w = accepted-passes (checksAs kind s) (readingAs kind s) r (sym (row-checks (kindRow kind) s) ∙ read) in
+    rw (w .1) (kind-long kind s)
 
-  -- the first 14 are those of a valid reading
-  pub valid-numbers : AcceptsNumbered n s r
-      → ValidReading (readingTime r) × (rest : List ℤ) × (readingNumbers r ≡ timeNumbers (readingTime r) ++ rest)
-  valid-numbers h = let more = more-numbers r in (kind-valid (h .0) s r (h .1 .1), more .0, more .1)
+-- the first 14 are those of a valid reading
+pub valid-numbers : (n : ℕ) (s : List ℕ) (r : Reading) → AcceptsNumbered n s r
+    → ValidReading (readingTime r) × (rest : List ℤ) × (readingNumbers r ≡ timeNumbers (readingTime r) ++ rest)
+valid-numbers n s r h = let more = more-numbers r in (kind-valid (h .0) s r (h .1 .1), more .0, more .1)

@@ -12,13 +12,13 @@ use Rattle.calendar.specs.Rules.{ValidReading}
 use Rattle.dcf77.specs.Lines.{minuteLines}
 use Rattle.dcf77_outcome.specs.RunNumber.{HasMinute}
 use Rattle.time_string.specs.Row.{kindRow}
-use Rattle.time_string.specs.Kind.{kindNumber, namedKind}
+use Rattle.time_string.specs.Kind.{kindNumber}
 use Rattle.time_string.specs.declared.Kind.{Kind}
 use Rattle.c_numbers.specs.Numbers.{timeNumbers, timeCount, minuteCount}
 use Rattle.demands.specs.Accepted.{AcceptsNumbers}
 
 -- ---- the orders
--- a kind's own numbers
+-- the numbers of refusals that only this kind has: 8 and 9 for GPS, none for the others
 abbrev pub ownNumbers : Kind → List ℕ
 ownNumbers kind = kindRow kind .own
 
@@ -96,21 +96,21 @@ numberCount kind = length (kindRow kind .ranges)
 abbrev pub noRoomFor : ℕ → List ℤ → Line
 noRoomFor count fields = line 20 (length fields < count)
 
--- first the kind's number, then the lines of its reader, then the room: 01 gives no order for these, so 20 comes last,
--- as in a writer
-abbrev pub readLines : ℕ → List ℕ → List ℤ → List Line
-readLines n s fields = unknownKind n ∷ linesAs (namedKind n) s ++ (noRoomFor (numberCount (namedKind n)) fields ∷ [])
+-- the lines of the kind's reader, then the room: 01 gives no order for these, so 20 comes last, as in a writer
+abbrev pub readLines : Kind → List ℕ → List ℤ → List Line
+readLines kind s fields = linesAs kind s ++ (noRoomFor (numberCount kind) fields ∷ [])
 
 -- the kind, and then the lines of a writer of these numbers: without a kind there is no format that could refuse, so 1
 -- comes first
 abbrev pub writeLines : ℕ → List ℤ → List ℕ → List Line
 writeLines n z buffer = unknownKind n ∷ writerLines (λ s. AcceptsNumbers n s z) buffer
 
--- the minute's reader, the room
+-- the lines of the minute's reader, then the room
 abbrev pub readMinuteLines : List ℕ → List ℤ → List Line
 readMinuteLines m fields = minuteLines m ++ (noRoomFor minuteCount fields ∷ [])
 
--- "Refused with 23 where the fields are no valid reading" (01, The reading): the first 14 numbers are those of none
+-- "Refused with 23 where the fields are no valid reading" (01, The reading): the first 14 numbers are those of no valid
+-- reading
 abbrev pub instantLinesOf : List ℤ → List Line
 instantLinesOf z = line 23 ((t : ClockTime) → ValidReading t → take timeCount z ≡ timeNumbers t → ⊥) ∷ []
 

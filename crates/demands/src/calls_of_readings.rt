@@ -3,7 +3,7 @@ ghost use mathlib.Core.Path.{_≡_};
 ghost use Prim.Native.Nat.{ℕ};
 ghost use mathlib.Core.List.{List, [], _∷_, _++_};
 ghost use Rattle.clock_time.specs.Called.{called};
-ghost use Rattle.time_string.specs.Kind.{kindNumber, namedKind};
+ghost use Rattle.time_string.specs.Kind.{kindNumber};
 ghost use Rattle.time_string.specs.Accepted.{TellsKind};
 ghost use Rattle.time_string.specs.declared.Kind.{Kind};
 ghost use Rattle.dcf77.specs.Accepts.{AcceptsMinute};
@@ -34,9 +34,14 @@ fn radio_clock_kind(s: &[u8], kind: &mut u8) -> u8
 
 fn radio_clock_read(kind: u8, s: &[u8], fields: &mut [i32]) -> u8
     ensures demand_1 { λ r. ⌜
-        CallRefusesAndKeeps (readLines kind (now (s .entry)) (now (fields .entry)))
-        (1 ∷ textOrder (ownNumbers (namedKind kind)) ++ (20 ∷ []))
-        (now (fields .entry)) (called r (now (fields .exit)))
+        ((k : Kind) → kind ≡ kindNumber k
+        → CallRefusesAndKeeps (readLines k (now (s .entry)) (now (fields .entry)))
+        (textOrder (ownNumbers k) ++ (20 ∷ []))
+        (now (fields .entry)) (called r (now (fields .exit))))
+        ⌝ }
+    ensures unknown_kind { λ r. ⌜
+        (((k : Kind) → kind ≡ kindNumber k → ⊥)
+        → called r (now (fields .exit)) ≡ called 1 (now (fields .entry)))
         ⌝ }
     ensures demand_2 { λ r. ⌜
         CallReadsExactly readingNumbers (AcceptsNumbered kind (now (s .entry))) (now (fields .entry))

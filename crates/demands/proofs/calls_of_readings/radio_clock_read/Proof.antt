@@ -6,8 +6,10 @@ use Rattle.demands.proofs.Demand2 as demand-2
 
 returns : tie.Need-returns
 returns c =
-    let e = c .before .radio-clock-read .ensures in
-    (rw e (demand-1.c-read _ _ _), rw e (demand-2.c-read _ _ _))
+    let e = c .before .radio-clock-read .ensures in (
+      λ k q. rw (e, q) (demand-1.c-read k _ _),
+      (λ none. rw e (demand-1.c-read-unknown _ _ _ none), rw e (demand-2.c-read _ _ _)),
+    )
 
 pub radio-clock-read-spec : {M : Type 1} → statement M
 radio-clock-read-spec = tie.close (tie.spec (λ c κs. search needs) (λ c. search needs) returns)

@@ -77,15 +77,15 @@ unfoldable pub flagSum : Bool → Bool → Bool → ℕ
 flagSum summer change unsynchronised = cond summer 1 0 + cond change 2 0 + cond unsynchronised 4 0
 
 -- the layout with the fields of a clock time and FF in it
-abbrev pub lineWith : ClockTime → ℕ → List ℕ
-lineWith t flags =
+abbrev pub textWith : ClockTime → ℕ → List ℕ
+textWith t flags =
     digits 2 (t .year) ++ ascii "-" ++ digits 2 (t .month) ++ ascii "-" ++ digits 2 (t .day)
     ++ ascii "-" ++ digits 2 (t .hour) ++ ascii "-" ++ digits 2 (t .minute) ++ ascii "-" ++ digits 2 (t .second)
     ++ ascii "-" ++ digits 2 flags ++ ascii "\r"
 
 -- the only string that could be read as a clock time
 unfoldable pub elvText : ClockTime → List ℕ
-elvText t = lineWith t (flagSum (t .«summer_time») (t .«dst_change_announced») (t .unsynchronised))
+elvText t = textWith t (flagSum (t .«summer_time») (t .«dst_change_announced») (t .unsynchronised))
 
 -- the clock times that an ELV string can represent, if they are readings (`isRepresentable` asks that)
 unfoldable pub elvRepresentable : ClockTime → Bool

@@ -3,7 +3,7 @@ use clock_time::ClockTime;
 use clock_time::WriteAnswer;
 ghost use mathlib.Core.Path.{_≡_};
 ghost use Rattle.clock_time.specs.Writing.{written};
-ghost use Rattle.elv_dcf7000.specs.Elv.{flagSum, lineWith, elvText, elvRepresentable, writeElv};
+ghost use Rattle.elv_dcf7000.specs.Elv.{flagSum, textWith, elvText, elvRepresentable, writeElv};
 
 fn flag_sum(summer: bool, change: bool, unsynchronised: bool) -> u8
     ensures { λ r. ⌜ r ≡ flagSum summer change unsynchronised ⌝ }
@@ -12,8 +12,8 @@ fn flag_sum(summer: bool, change: bool, unsynchronised: bool) -> u8
 }
 
 // The layout with the fields of `t` and the number of its flags in it.
-fn line_with(t: ClockTime, flags: u8) -> [u8; 21]
-    ensures { λ r. ⌜ r ≡ lineWith t flags ⌝ }
+fn text_with(t: ClockTime, flags: u8) -> [u8; 21]
+    ensures { λ r. ⌜ r ≡ textWith t flags ⌝ }
 {
     let d = layout::clock_digits(t);
     let number = decimal::pair(flags as u32);
@@ -46,7 +46,7 @@ fn text_of(t: ClockTime) -> [u8; 21]
     ensures { λ r. ⌜ r ≡ elvText t ⌝ }
 {
     let flags = flag_sum(t.summer_time, t.dst_change_announced, t.unsynchronised);
-    line_with(t, flags)
+    text_with(t, flags)
 }
 
 // Whether an ELV string can represent `t`.

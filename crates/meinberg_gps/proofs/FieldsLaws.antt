@@ -17,7 +17,7 @@ use Rattle.layout.proofs.AcceptLaws.{PassesText}
 use Rattle.layout.proofs.WriteLaws.{restore-fits, digits-number, digits-year, letter-has}
 use Rattle.meinberg_gps_position.proofs.PositionReadLaws.{text-position}
 use Rattle.meinberg_pzf.specs.Pzf.{pzfText}
-use Rattle.meinberg_gps.specs.Gps.{gpsLayout, offsetOf, leapMismatch, clockOf, gpsFields, lineWith, gpsText}
+use Rattle.meinberg_gps.specs.Gps.{gpsLayout, offsetOf, leapMismatch, clockOf, gpsFields, textWith, gpsText}
 use Rattle.meinberg_gps.specs.Gps.{sameGps, gps}
 use Rattle.meinberg_gps.specs.declared.GpsTime.{GpsTime}
 use Rattle.meinberg_gps.proofs.OffsetLaws.{text-offset}
@@ -47,7 +47,7 @@ letter-leap {s} fit h =
     rw (← (agree (has "L" 38 s) (eqb (number 2 20 s) 60) h)) (letter-has fit 38 (code "L") refl)
 
 pub text-fields : (s : List ℕ) → PassesText gps s → gpsText (gpsFields s) ≡ s
-unfolding gpsText lineWith gpsFields gps clockOf gpsLayout ascii
+unfolding gpsText textWith gpsFields gps clockOf gpsLayout ascii
 text-fields s r =
     let fit = r .clock .fits in
     rw (

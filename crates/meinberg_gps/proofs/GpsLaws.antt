@@ -20,7 +20,7 @@ use Rattle.meinberg_gps_position.specs.Position.{angleBytes, positionText, posi
 use Rattle.meinberg_gps_position.proofs.PositionLaws.{position-representable}
 use Rattle.meinberg_gps_position.proofs.PositionWrittenLaws.{PositionRead, position-read}
 use Rattle.meinberg_pzf.specs.Pzf.{pzfText}
-use Rattle.meinberg_gps.specs.Gps.{gpsLayout, leapMismatch, clockOf, gpsFields, lineWith, gpsText}
+use Rattle.meinberg_gps.specs.Gps.{gpsLayout, leapMismatch, clockOf, gpsFields, textWith, gpsText}
 use Rattle.meinberg_gps.specs.Gps.{gps}
 use Rattle.meinberg_gps.specs.Gps.{writtenGps, writeGps}
 use Rattle.meinberg_gps.specs.declared.GpsTime.{GpsTime}
@@ -32,25 +32,25 @@ gpsRepresentable g = positionRepresentable (g .position)
 
 text-fits : (g : GpsTime) → FitsLayout gpsLayout (gpsText g)
 unfolding
-    gpsLayout gpsText lineWith pzfText offsetText positionText angleBytes aligned padded ascii digits fitsFrom allowed
+    gpsLayout gpsText textWith pzfText offsetText positionText angleBytes aligned padded ascii digits fitsFrom allowed
 text-fits g = tested-fits gpsLayout (gpsText g) refl (simp (digit-written, letter-fits))
 
 -- ---- the parts are read as they were written
 module _ (g : GpsTime) (h : isRepresentable (g .time) ≡ true) where
   offset-part : OffsetRead (g .time .«utc_offset») (gpsText g)
-  unfolding gpsText lineWith pzfText offsetText ascii digits
+  unfolding gpsText textWith pzfText offsetText ascii digits
   offset-part = offset-read (g .time .«utc_offset») (represented (g .time) h .offset) (gpsText g) refl
 
   clock-part : clockOf (gpsText g) ≡ g .time
-  unfolding clockOf gpsText lineWith pzfText offsetText ascii digits
+  unfolding clockOf gpsText textWith pzfText offsetText ascii digits
   clock-part = simp (numbers-written, offset-part .same, letter-read)
 
   leap-part : leapMismatch (gpsText g) ≡ false
-  unfolding leapMismatch gpsText lineWith pzfText offsetText ascii digits
+  unfolding leapMismatch gpsText textWith pzfText offsetText ascii digits
   leap-part = simp (numbers-written, letter-read, beq-refl)
 
 position-part : (g : GpsTime) → gpsRepresentable g ≡ true → PositionRead (g .position) (gpsText g)
-unfolding gpsText lineWith pzfText offsetText positionText angleBytes aligned padded ascii digits
+unfolding gpsText textWith pzfText offsetText positionText angleBytes aligned padded ascii digits
 position-part g k = position-read (g .position) k (gpsText g) refl
 
 pub decides : Decides gps gpsText gpsRepresentable

@@ -73,8 +73,8 @@ gpsFields s = record { time = clockOf s; position = positionOf s }
 
 -- the layout with the bytes of a PZF string in it, "As PZF up to place 22" (01, Meinberg and ELV strings) and the flags
 -- from u to a as there, those of an offset, a letter for second 60 and the bytes of a position
-unfoldable pub lineWith : List ℕ → List ℕ → ℕ → List ℕ → List ℕ
-lineWith pzf offset leap position =
+unfoldable pub textWith : List ℕ → List ℕ → ℕ → List ℕ → List ℕ
+textWith pzf offset leap position =
     slice 0 24 pzf ++ slice 0 6 offset
     ++ ascii "; " ++ slice 25 6 pzf ++ (leap ∷ [])
     ++ ascii "; " ++ slice 0 23 position ++ ascii "m\u{3}"
@@ -83,7 +83,7 @@ lineWith pzf offset leap position =
 unfoldable pub gpsText : GpsTime → List ℕ
 gpsText g =
     let t = g .time in
-    lineWith (pzfText t) (offsetText (t .«utc_offset»)) (letter (eqb (t .second) 60) "L") (positionText (g .position))
+    textWith (pzfText t) (offsetText (t .«utc_offset»)) (letter (eqb (t .second) 60) "L") (positionText (g .position))
 
 -- two clock times with positions are the same
 unfoldable pub sameGps : GpsTime → GpsTime → Bool

@@ -3,12 +3,12 @@ use meinberg_gps::GpsTime;
 use meinberg_gps_position::PositionText;
 use signed::offset::OffsetText;
 ghost use mathlib.Core.Path.{_≡_};
-ghost use Rattle.meinberg_gps.specs.Gps.{lineWith, gpsText};
+ghost use Rattle.meinberg_gps.specs.Gps.{textWith, gpsText};
 
 // The layout with the bytes of its parts in it: a PZF string's date, time and flags, an offset, the letter for second
 // 60 and a position.
-fn line_with(pzf: [u8; 32], offset: OffsetText, leap: u8, position: PositionText) -> [u8; 66]
-    ensures { λ r. ⌜ r ≡ lineWith pzf offset leap position ⌝ }
+fn text_with(pzf: [u8; 32], offset: OffsetText, leap: u8, position: PositionText) -> [u8; 66]
+    ensures { λ r. ⌜ r ≡ textWith pzf offset leap position ⌝ }
 {
     [
         pzf[0],
@@ -89,5 +89,5 @@ pub(crate) fn text_of(g: GpsTime) -> [u8; 66]
     let offset = signed::offset::offset_text(t.utc_offset);
     let leap = layout::letter_if(t.second == 60, b'L');
     let position = meinberg_gps_position::position_text(g.position);
-    line_with(pzf, offset, leap, position)
+    text_with(pzf, offset, leap, position)
 }

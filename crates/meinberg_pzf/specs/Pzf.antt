@@ -34,8 +34,8 @@ unfoldable pub pzfFields : List ℕ → ClockTime
 pzfFields s = clockWithFlags s 1 11 14 25 (pzfOffset (has "U" 24 s) (has "S" 27 s))
 
 -- the layout with the fields of a clock time and seven letters in it
-abbrev pub lineWith : ClockTime → ℕ → ℕ → ℕ → ℕ → ℕ → ℕ → ℕ → List ℕ
-lineWith t utc u v x y z a =
+abbrev pub textWith : ClockTime → ℕ → ℕ → ℕ → ℕ → ℕ → ℕ → ℕ → List ℕ
+textWith t utc u v x y z a =
     ascii "\u{2}" ++ digits 2 (t .day) ++ ascii "." ++ digits 2 (t .month) ++ ascii "." ++ digits 2 (t .year)
     ++ ascii "; " ++ digits 1 (t .weekday)
     ++ ascii "; " ++ digits 2 (t .hour) ++ ascii ":" ++ digits 2 (t .minute) ++ ascii ":" ++ digits 2 (t .second)
@@ -44,7 +44,7 @@ lineWith t utc u v x y z a =
 -- the only string that could be read as a clock time: the offset decides t, and x is the summer flag
 unfoldable pub pzfText : ClockTime → List ℕ
 pzfText t =
-    lineWith t (letter (eqℤ (t .«utc_offset») (pos 0)) "U")
+    textWith t (letter (eqℤ (t .«utc_offset») (pos 0)) "U")
     (letter (t .unsynchronised) "#") (letter (t .unverified) "*")
     (letter (t .«summer_time») "S") (letter (t .«dst_change_announced») "!")
     (letter (t .«leap_second_announced») "A") (letter (t .«alternate_antenna») "R")

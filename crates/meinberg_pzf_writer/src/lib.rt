@@ -3,11 +3,11 @@ use clock_time::ClockTime;
 use clock_time::WriteAnswer;
 ghost use mathlib.Core.Path.{_≡_};
 ghost use Rattle.clock_time.specs.Writing.{written};
-ghost use Rattle.meinberg_pzf.specs.Pzf.{lineWith, pzfText, pzfRepresentable, writePzf};
+ghost use Rattle.meinberg_pzf.specs.Pzf.{textWith, pzfText, pzfRepresentable, writePzf};
 
 // The layout with the fields of `t` and the seven flag letters in it.
-fn line_with(t: ClockTime, utc: u8, u: u8, v: u8, x: u8, y: u8, z: u8, a: u8) -> [u8; 32]
-    ensures { λ r. ⌜ r ≡ lineWith t utc u v x y z a ⌝ }
+fn text_with(t: ClockTime, utc: u8, u: u8, v: u8, x: u8, y: u8, z: u8, a: u8) -> [u8; 32]
+    ensures { λ r. ⌜ r ≡ textWith t utc u v x y z a ⌝ }
 {
     let d = layout::clock_digits(t);
     [
@@ -60,7 +60,7 @@ pub fn text_of(t: ClockTime) -> PzfBytes
     let y = layout::letter_if(t.dst_change_announced, b'!');
     let z = layout::letter_if(t.leap_second_announced, b'A');
     let a = layout::letter_if(t.alternate_antenna, b'R');
-    line_with(t, utc, u, v, x, y, z, a)
+    text_with(t, utc, u, v, x, y, z, a)
 }
 
 // Whether the flags of a PZF string can represent the zone of `t`.

@@ -47,8 +47,8 @@ unfoldable pub announcedLetter : Bool → Bool → ℕ
 announcedLetter change leap = cond change (code "!") (letter leap "A")
 
 -- the layout with the fields of a clock time and four letters in it
-abbrev pub lineWith : ClockTime → ℕ → ℕ → ℕ → ℕ → List ℕ
-lineWith t u v x y =
+abbrev pub textWith : ClockTime → ℕ → ℕ → ℕ → ℕ → List ℕ
+textWith t u v x y =
     ascii "\u{2}D:" ++ digits 2 (t .day) ++ ascii "." ++ digits 2 (t .month) ++ ascii "." ++ digits 2 (t .year)
     ++ ascii ";T:" ++ digits 1 (t .weekday)
     ++ ascii ";U:" ++ digits 2 (t .hour) ++ ascii "." ++ digits 2 (t .minute) ++ ascii "." ++ digits 2 (t .second)
@@ -57,7 +57,7 @@ lineWith t u v x y =
 -- the only string that could be read as a clock time
 unfoldable pub standardText : ClockTime → List ℕ
 standardText t =
-    lineWith t (letter (t .unsynchronised) "#") (letter (t .unverified) "*")
+    textWith t (letter (t .unsynchronised) "#") (letter (t .unverified) "*")
     (zoneLetter (t .«utc_offset») (t .«summer_time»))
     (announcedLetter (t .«dst_change_announced») (t .«leap_second_announced»))
 

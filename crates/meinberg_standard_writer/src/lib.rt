@@ -3,7 +3,7 @@ use clock_time::ClockTime;
 use clock_time::WriteAnswer;
 ghost use mathlib.Core.Path.{_≡_};
 ghost use Rattle.clock_time.specs.Writing.{written};
-ghost use Rattle.meinberg_standard.specs.Standard.{zoneLetter, announcedLetter, lineWith, standardText};
+ghost use Rattle.meinberg_standard.specs.Standard.{zoneLetter, announcedLetter, textWith, standardText};
 ghost use Rattle.meinberg_standard.specs.Standard.{standardRepresentable, writeStandard};
 
 fn zone_letter(offset: i16, summer: bool) -> u8
@@ -28,8 +28,8 @@ fn announced_letter(change: bool, leap: bool) -> u8
 }
 
 // The layout with the fields of `t` and the four flag letters in it.
-fn line_with(t: ClockTime, u: u8, v: u8, x: u8, y: u8) -> [u8; 32]
-    ensures { λ r. ⌜ r ≡ lineWith t u v x y ⌝ }
+fn text_with(t: ClockTime, u: u8, v: u8, x: u8, y: u8) -> [u8; 32]
+    ensures { λ r. ⌜ r ≡ textWith t u v x y ⌝ }
 {
     let d = layout::clock_digits(t);
     [
@@ -75,7 +75,7 @@ fn text_of(t: ClockTime) -> [u8; 32]
     let v = layout::letter_if(t.unverified, b'*');
     let x = zone_letter(t.utc_offset, t.summer_time);
     let y = announced_letter(t.dst_change_announced, t.leap_second_announced);
-    line_with(t, u, v, x, y)
+    text_with(t, u, v, x, y)
 }
 
 // Whether the letters of a standard string can represent `t`.

@@ -21,7 +21,7 @@ returns c =
     let u = v .before in
     let t = u .before in
     let o = t .before in
-    c .line-with .ensures
+    c .text-with .ensures
     ∙ simp (
       a .letter-if7 .ensures,
       z .letter-if6 .ensures,

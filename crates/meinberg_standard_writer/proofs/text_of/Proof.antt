@@ -15,7 +15,7 @@ unfolding standardText
 returns c =
     let x = c .before .before in
     let b = x .before .before in
-    c .line-with .ensures
+    c .text-with .ensures
     ∙ simp (
       toZ-ofZ (offset-fits (b .before .before)),
       c .before .announced-letter .ensures,

@@ -18,7 +18,7 @@ returns c =
     let o = l .before .before in
     let f = o .before .before in
     let offset = rw (toZ-ofZ (offset-fits (f .before .before))) at (o .offset-text .ensures) in
-    c .line-with .ensures
+    c .text-with .ensures
     ∙ simp (f .text-of .ensures, offset, l .letter-if .ensures, p .position-text .ensures)
 
 pub text-of-spec : {M : Type 1} → statement M

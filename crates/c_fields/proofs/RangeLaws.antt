@@ -15,7 +15,7 @@ use borrow.Author.Tests.{leb-true}
 use Rattle.clock_time.specs.Errors.{accepted, refused}
 use Rattle.clock_time.proofs.Tests.{both}
 use Rattle.clock_time.specs.FieldRanges.{Range, range, upTo, i16Range, within}
-use Rattle.c_fields.specs.Ranges.{ranges, fits, at}
+use Rattle.c_fields.specs.Ranges.{rangesBetween, fits, at}
 use Rattle.c_fields.specs.Ranges.{fitsAll, numbered}
 
 -- ---- a number in a range
@@ -52,21 +52,21 @@ fits-first (r ∷ rs) qs (x ∷ z) h =
 module _ (least most z : List ℤ) where
   -- the test of all but the first i numbers
   abbrev pub after : ℕ → Bool
-  after i = fits (ranges (drop i least) (drop i most)) (drop i z)
+  after i = fits (rangesBetween (drop i least) (drop i most)) (drop i z)
 
   pub after-step : (i : ℕ) → i < length least → i < length most → i < length z → (all : Bool)
       → all && leZ (at i least) (at i z) && leZ (at i z) (at i most) && after (suc i) ≡ all && after i
-  unfolding fits ranges
+  unfolding fits rangesBetween
   after-step i h k l all =
       rw (drop-cons least i (pos 0) h, drop-cons most i (pos 0) k, drop-cons z i (pos 0) l) (simp and-assoc)
 
   pub after-all : (i : ℕ) → length least ≤ i → after i ≡ true
-  unfolding fits ranges
+  unfolding fits rangesBetween
   after-all i h = rw (drop-of-length-le least h)
 
 pub fits-short : (least most z : List ℤ) → length least ≡ length most → length z < length least
-    → fits (ranges least most) z ≡ false
-unfolding fits ranges
+    → fits (rangesBetween least most) z ≡ false
+unfolding fits rangesBetween
 fits-short [] most z e h = absurd (omega arith)
 fits-short (a ∷ least) [] z e h = absurd (omega (arith, e))
 fits-short (a ∷ least) (b ∷ most) [] e h = refl

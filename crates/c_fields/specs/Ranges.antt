@@ -13,15 +13,15 @@ use Rattle.meinberg_gps.specs.declared.GpsTime.{GpsTime}
 use Rattle.dcf77.specs.declared.MinuteTime.{MinuteTime}
 
 -- ---- ranges
--- the marks 1 to 14 and whether there were 60 after those
+-- those of a clock time, and after them those of the marks 1 to 14 as one number and of whether there were 60 marks
 unfoldable pub minuteRanges : List Range
 minuteRanges = timeRanges ++ (upTo 65535 ∷ upTo 1 ∷ [])
 
--- ranges from the list of their ends
-unfoldable pub ranges : List ℤ → List ℤ → List Range
-ranges [] most = []
-ranges (a ∷ least) [] = []
-ranges (a ∷ least) (b ∷ most) = range a b ∷ ranges least most
+-- the ranges whose least numbers are one list and whose most are the other, as many as the shorter list has
+unfoldable pub rangesBetween : List ℤ → List ℤ → List Range
+rangesBetween [] most = []
+rangesBetween (a ∷ least) [] = []
+rangesBetween (a ∷ least) (b ∷ most) = range a b ∷ rangesBetween least most
 
 -- there is a number for each range, and it is in it; numbers after those play no part
 unfoldable pub fits : List Range → List ℤ → Bool
@@ -75,8 +75,8 @@ unfoldable pub minuteFrom : List ℤ → MinuteTime
 minuteFrom z =
     record { time = timeFrom z; detail = record { «first_marks» = natAbs (at 14 z); sixty = isSet (at 15 z) } }
 
--- 23: "reading that no accepted string or minute of this format gives" (01, Refusal numbers), here because a number
--- is outside the range of its place, or there are too few or too many
+-- 23: "reading that no accepted string or minute of this format gives" (01, Refusal numbers), here because the numbers
+-- do not fit: one is outside the range of its place, or there are too few or, but for `firstTimeOf`, too many
 unfoldable pub numbered : {A : Type 0} → Bool → A → Answer A
 numbered fit a = checked (given 23 (not fit) ∷ []) a
 

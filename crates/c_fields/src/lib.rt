@@ -15,7 +15,7 @@ ghost use lib.IntN.{natAbs};
 ghost use lib.ListN.{length};
 ghost use Rattle.c_fields.specs.Numbered.{numberedTime, numberedGps, numberedMinute};
 ghost use Rattle.clock_time.specs.FieldRanges.{within, upTo, i16Range, timeRanges, gpsRanges};
-ghost use Rattle.c_fields.specs.Ranges.{minuteRanges, ranges};
+ghost use Rattle.c_fields.specs.Ranges.{minuteRanges, rangesBetween};
 ghost use Rattle.c_fields.specs.Ranges.{fits, at, isSet, timeFrom, gpsFrom, minuteFrom, timeOf};
 ghost use Rattle.c_fields.specs.Ranges.{firstTimeOf, gpsOf, minuteOf};
 
@@ -60,7 +60,7 @@ const MINUTE_MOST: [i32; MINUTE_FIELDS] = [W, B, B, B, B, B, B, 32767, 1, 1, 1, 
 // Whether the first numbers are in the ranges with these ends. It looks at all, which is quicker than to stop early.
 fn are_within(least: &[i32], most: &[i32], z: &[i32]) -> bool
     requires { ⌜ length (now least) ≡ length (now most) ⌝ }
-    ensures { λ r. ⌜ r ≡ fits (ranges (now (least .entry)) (now (most .entry))) (now (z .entry)) ⌝ }
+    ensures { λ r. ⌜ r ≡ fits (rangesBetween (now (least .entry)) (now (most .entry))) (now (z .entry)) ⌝ }
 {
     if z.len() < least.len() {
         return false;

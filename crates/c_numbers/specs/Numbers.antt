@@ -13,16 +13,19 @@ use Rattle.dcf77.specs.declared.MinuteTime.{MinuteTime}
 use Rattle.trimble_sv6.specs.declared.TrimbleTime.{TrimbleTime}
 use Rattle.clock_time.specs.Called.{leaving}
 
--- how many numbers a clock time is, one with a position, a minute, and a clock time with milliseconds
+-- how many numbers a clock time is
 abbrev pub timeCount : ℕ
 timeCount = 14
 
+-- how many a clock time with a position is
 abbrev pub gpsCount : ℕ
 gpsCount = 17
 
+-- how many a minute is
 abbrev pub minuteCount : ℕ
 minuteCount = 16
 
+-- how many a clock time with milliseconds is
 abbrev pub trimbleCount : ℕ
 trimbleCount = 15
 
@@ -65,12 +68,12 @@ unfoldable pub trimbleNumbers : TrimbleTime → List ℤ
 trimbleNumbers g = timeNumbers (g .time) ++ (pos (g .milliseconds) ∷ [])
 
 -- 20: "lent memory: [..] a buffer too short to write to"; "it fills the first places it needs and changes nothing after
--- them" (01, Refusal numbers): numbers are put in front
+-- them" (01, Refusal numbers): numbers take the place of the first of those lent
 unfoldable pub putNumbers : List ℤ → List ℤ → Exit (Unit {0}) (List ℤ)
 putNumbers numbers lent =
     leaves lent (numbers ++ drop (length numbers) lent)
     (checked (given 20 (ltb (length lent) (length numbers)) ∷ []) tt)
 
--- the numbers of what a reader accepted are put in front of those lent; its refusal stays
+-- the numbers of what a reader accepted take the place of the first of those lent; its refusal stays
 unfoldable pub putAnswer : {A : Type 0} → (A → List ℤ) → Answer A → List ℤ → Exit (Unit {0}) (List ℤ)
 putAnswer numbers a lent = leaving lent a (λ x. putNumbers (numbers x) lent)

@@ -86,7 +86,7 @@ fn copy_to_front(numbers: &[i32], fields: &mut [i32])
     }
 }
 
-// Puts numbers in front of those lent. Refuses with LentMemory (20) if there is no room.
+// Puts numbers in the place of the first of those lent. Refuses with LentMemory (20) if there is no room.
 fn put_numbers(numbers: &[i32], fields: &mut [i32]) -> u8
     ensures { λ r. ⌜
         called r (now (fields .exit)) ≡ calledMemory (putNumbers (now (numbers .entry)) (now (fields .entry)))
@@ -152,8 +152,8 @@ fn put_milliseconds(g: TrimbleTime, fields: &mut [i32]) -> u8
     put_with(t, number(g.milliseconds), 0, 0, TRIMBLE_FIELDS, fields)
 }
 
-// Puts the 14 numbers of a clock time that was read in front of those lent. Refuses as the reader did, then with
-// LentMemory (20) if there is no room.
+// Puts the 14 numbers of a clock time that was read in the place of the first of those lent. Refuses as the reader did,
+// then with LentMemory (20) if there is no room.
 pub fn put_time(answer: ReadAnswer, fields: &mut [i32]) -> u8
     ensures { λ r. ⌜
         called r (now (fields .exit)) ≡ calledMemory (putAnswer timeNumbers (readAnswer answer) (now (fields .entry)))

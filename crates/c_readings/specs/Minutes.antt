@@ -6,7 +6,7 @@ use Rattle.clock_time.specs.Exit.{Exit}
 use Rattle.dcf77.specs.Minute.{readMinute}
 use Rattle.c_numbers.specs.Numbers.{minuteNumbers, putAnswer}
 
--- the minute that was read is put in front of the numbers lent: as the minute's reader, and then 20 if there is no
--- room
+-- the numbers of the minute that was read take the place of the first numbers lent: as the minute's reader, and then 20
+-- if there is no room
 unfoldable pub readMinuteInto : List ℕ → List ℤ → Exit (Unit {0}) (List ℤ)
 readMinuteInto marks lent = putAnswer minuteNumbers (readMinute marks) lent

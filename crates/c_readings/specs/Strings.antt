@@ -1,11 +1,11 @@
--- Time strings by kind numbers, over memory that C lends.
+-- Time strings by kind numbers, over memory that C lends, and the instant of numbers.
 use Prim.Native.Nat.{ℕ}
 use mathlib.Core.List.{List}
 use lib.IntN.{ℤ}
 use Rattle.clock_time.specs.Errors.{Answer, accepted}
 use Rattle.clock_time.specs.Exit.{Exit}
 use Rattle.calendar.specs.UnixTime.{unixTime}
-use Rattle.time_string.specs.Row.{Reading, time, timeAndPosition, Shape, withoutPosition, withPosition, Shaped}
+use Rattle.time_string.specs.Row.{Reading, time, timeAndPosition}
 use Rattle.time_string.specs.Kind.{kindOf, kindNumber, kindNamed, readAs}
 use Rattle.clock_time.specs.Called.{andThen}
 use Rattle.c_numbers.specs.Numbers.{timeNumbers, gpsNumbers, putAnswer}
@@ -20,11 +20,6 @@ kindNumberOf s = andThen (kindOf s) (λ k. accepted (kindNumber k))
 abbrev pub readingNumbers : Reading → List ℤ
 readingNumbers (time t) = timeNumbers t
 readingNumbers (timeAndPosition g) = gpsNumbers g
-
--- the same by its shape
-abbrev pub shapedNumbers : (shape : Shape) → Shaped shape → List ℤ
-shapedNumbers withoutPosition t = timeNumbers t
-shapedNumbers withPosition g = gpsNumbers g
 
 -- "The caller names the kind; an unknown kind number from C gives 1." (01, Meinberg and ELV strings)
 unfoldable pub readNumbered : ℕ → List ℕ → Answer Reading

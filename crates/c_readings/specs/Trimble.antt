@@ -6,7 +6,7 @@ use Rattle.clock_time.specs.Exit.{Exit}
 use Rattle.trimble_sv6.specs.Trimble.{readTrimble}
 use Rattle.c_numbers.specs.Numbers.{trimbleNumbers, putAnswer}
 
--- the clock time and the milliseconds that were read are put in front of the numbers lent: as the string's reader, and
--- then 20 if there is no room
+-- the numbers of the clock time and the milliseconds that were read take the place of the first numbers lent: as the
+-- string's reader, and then 20 if there is no room
 unfoldable pub readTrimbleInto : List ℕ → List ℤ → Exit (Unit {0}) (List ℤ)
 readTrimbleInto s lent = putAnswer trimbleNumbers (readTrimble s) lent

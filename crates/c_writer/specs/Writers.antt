@@ -24,7 +24,7 @@ abbrev pub shapedFrom : (shape : Shape) → List ℤ → Shaped shape
 shapedFrom withoutPosition z = timeFrom z
 shapedFrom withPosition z = gpsFrom z
 
--- the same if they are in the ranges of the row
+-- the same if there is one number for each range of the row, and it is in it; else 23
 abbrev pub valueOf : (r : KindRow) → List ℤ → Answer (Shaped (r .shape))
 valueOf r z = numbered (fitsAll (r .ranges) z) (shapedFrom (r .shape) z)
 
@@ -46,7 +46,8 @@ unfoldable pub writeMinuteFrom : List ℤ → List ℕ → Written
 writeMinuteFrom z buffer = leaving buffer (minuteOf z) (λ a. writeMinute a buffer)
 
 -- ---- what the private functions write
--- a clock time as a string of the kind with this number, as an ELV string if it names no other without a position
+-- a clock time as a standard string if n is that kind's number, as a PZF string if it is that one's, and as an ELV
+-- string for any other number; it is asked of these three kinds' numbers only
 unfoldable pub writeTime : ℕ → ClockTime → List ℕ → Written
 writeTime n t buffer =
     cond (eqb n (kindNumber Standard)) (writeStandard t buffer)

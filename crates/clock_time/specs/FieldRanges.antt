@@ -45,11 +45,12 @@ timeRanges =
     ∷ upTo 1 ∷ upTo 1 ∷ upTo 1 ∷ upTo 1 ∷ upTo 1 ∷ upTo 1
     ∷ []
 
--- latitude, longitude and height, as `Position` has them, after those
+-- those of a clock time, and after them latitude, longitude and height, as `Position` has them
 unfoldable pub gpsRanges : List Range
 gpsRanges = timeRanges ++ (i32Range ∷ i32Range ∷ upTo 65535 ∷ [])
 
--- the numbers of a clock time fit the fields of `ClockTime`, as those of every one do that a function takes or returns
+-- the numbers of a clock time are in the ranges of its fields. Every clock time that a function takes or returns has
+-- such numbers.
 pub record FitsClockTime (t : ClockTime) : Type 0 where
   pub year : t .year ≤ 65535
   pub month : t .month ≤ 255

@@ -44,7 +44,7 @@ use Rattle.meinberg_pzf.specs.Lines.{pzfLines}
 use Rattle.meinberg_gps.specs.Lines.{gpsLines}
 use Rattle.elv_dcf7000.specs.Lines.{elvLines}
 use Rattle.trimble_sv6.specs.Trimble.{readTrimble}
-use Rattle.trimble_sv6.specs.Lines.{trimbleLines}
+use Rattle.trimble_sv6.specs.Lines.{trimbleOrder, trimbleLines}
 use Rattle.dcf77.specs.Lines.{minuteLines}
 use Rattle.meinberg_gps.specs.Accepts.{AcceptsGps}
 use Rattle.elv_dcf7000.specs.Accepts.{AcceptsElv}
@@ -118,7 +118,7 @@ pub read-elv : (s : List ℕ) → RefusesInOrder (elvLines s) (textOrder []) (re
 unfolding readElv readText elv
 read-elv s = ordered (elvFields s) (textChecks elv s) _ (text-lines.agrees elv-words.in-words s) _ refl
 
-pub read-trimble : (s : List ℕ) → RefusesInOrder (trimbleLines s) (1 ∷ 2 ∷ 3 ∷ 24 ∷ 25 ∷ 5 ∷ 6 ∷ []) (readTrimble s)
+pub read-trimble : (s : List ℕ) → RefusesInOrder (trimbleLines s) trimbleOrder (readTrimble s)
 read-trimble s = trimble.read-ordered s
 
 pub write-standard : (t : ClockTime) (d : List ℕ) →
@@ -245,7 +245,7 @@ c-read-minute m fields =
     (entry.read-minute-checks m fields)))
 
 pub c-read-trimble : (s : List ℕ) (fields : List ℤ) →
-    CallRefusesAndKeeps (readTrimbleLines s fields) (1 ∷ 2 ∷ 3 ∷ 24 ∷ 25 ∷ 5 ∷ 6 ∷ 20 ∷ []) fields
+    CallRefusesAndKeeps (readTrimbleLines s fields) (trimbleOrder ++ (20 ∷ [])) fields
     (calledMemory (readTrimbleInto s fields))
 c-read-trimble s fields = from-memory _ _ refl fields (readTrimbleInto s fields) (keeps (trimble.read-decided s fields))
 

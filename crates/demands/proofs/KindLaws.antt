@@ -23,7 +23,8 @@ use Rattle.c_numbers.specs.Numbers.{timeNumbers, gpsNumbers}
 use Rattle.c_fields.specs.Ranges.{fitsAll, numbered}
 use Rattle.c_fields.proofs.Theorems as fields
 use Rattle.c_writer.specs.Writers.{shapedFrom, writeRow}
-use Rattle.c_readings.specs.Strings.{readingNumbers, shapedNumbers}
+use Rattle.c_readings.specs.Strings.{readingNumbers}
+use Rattle.c_readings.proofs.StringLaws.{shapedNumbers}
 use Rattle.demands.specs.Exactly.{ReadsExactly}
 use Rattle.demands.proofs.WriterLaws.{Settled, settled, settled-same, numbers-settled}
 use Rattle.demands.proofs.FitsLaws.{valid-fits}

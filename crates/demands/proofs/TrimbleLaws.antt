@@ -11,7 +11,7 @@ use Rattle.calendar.specs.UnixTime.{instantOf}
 use Rattle.calendar.proofs.RulesLaws.{valid-exactly}
 use Rattle.trimble_sv6.specs.Trimble.{trimbleFields, readTrimble}
 use Rattle.trimble_sv6.specs.Accepts.{AcceptsTrimble}
-use Rattle.trimble_sv6.specs.Lines.{trimbleLines}
+use Rattle.trimble_sv6.specs.Lines.{trimbleOrder, trimbleLines}
 use Rattle.trimble_sv6.specs.declared.TrimbleTime.{TrimbleTime}
 use Rattle.trimble_sv6.proofs.Checks.{trimbleChecks}
 use Rattle.trimble_sv6.proofs.LinesLaws.{read-checks, trimble-agrees}
@@ -28,12 +28,12 @@ use Rattle.demands.proofs.EntryLaws.{inFront, put-checks}
 use Rattle.demands.proofs.AgreeLaws.{room-agrees}
 use Rattle.demands.proofs.InstantLaws.{instant-first}
 
-pub read-ordered : (s : List ℕ) → RefusesInOrder (trimbleLines s) (1 ∷ 2 ∷ 3 ∷ 24 ∷ 25 ∷ 5 ∷ 6 ∷ []) (readTrimble s)
+pub read-ordered : (s : List ℕ) → RefusesInOrder (trimbleLines s) trimbleOrder (readTrimble s)
 read-ordered s =
     ordered (trimbleFields s) (trimbleChecks s) (trimbleLines s) (trimble-agrees s) (readTrimble s) (read-checks s)
 
 pub read-0 : (s : List ℕ) → readTrimble s ≡ refused 0 → ⊥
-read-0 s = never-0 _ (1 ∷ 2 ∷ 3 ∷ 24 ∷ 25 ∷ 5 ∷ 6 ∷ []) refl (readTrimble s) (read-ordered s)
+read-0 s = never-0 _ trimbleOrder refl (readTrimble s) (read-ordered s)
 
 -- ---- from C
 abbrev readTrimbleChecks : List ℕ → List ℤ → List Check

@@ -39,7 +39,7 @@ CallReadsExactly {A} numbers Accepts fields c =
     Accepts a × (length (numbers a) ≤ length fields) × (z ≡ numbers a ++ drop (length (numbers a)) fields)
     ))
 
--- a call that writes to a buffer, with the number of places filled behind a pointer
+-- `WritesExactly` of a call, which leaves the number of places filled behind a pointer
 pub record CallWritesExactly (Reads : List ℕ → Type 0) (buffer : List ℕ) (c : Called (List ℕ × ℕ)) : Type 0 where
   pub write-read : (s : List ℕ) → Reads s → length s ≤ length buffer
       → c ≡ called 0 (s ++ drop (length s) buffer, length s)

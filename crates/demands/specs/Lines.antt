@@ -80,7 +80,7 @@ instantLines t = line 23 (ValidReading t → ⊥) ∷ []
 
 -- 5: "no such date" (01, Refusal numbers), also outside 1970 to 2069
 abbrev pub dateLines : ℕ → ℕ → ℕ → List Line
-dateLines year month day = line 5 ((1970 ≤ year) × (year ≤ 2069) × GregorianDate year month day → ⊥) ∷ []
+dateLines year month day = line 5 (((1970 ≤ year) × (year ≤ 2069) × GregorianDate year month day) → ⊥) ∷ []
 
 -- ---- from C
 -- "an unknown kind number from C gives 1" (01, Meinberg and ELV strings)

@@ -7,6 +7,6 @@ use Rattle.trimble_sv6.specs.Lines.{trimbleLines}
 use Rattle.c_numbers.specs.Numbers.{trimbleCount}
 use Rattle.demands.specs.Lines.{noRoomFor}
 
--- the Trimble's reader, the room
+-- the lines of the Trimble's reader, then the room
 abbrev pub readTrimbleLines : List ℕ → List ℤ → List Line
 readTrimbleLines s fields = trimbleLines s ++ (noRoomFor trimbleCount fields ∷ [])

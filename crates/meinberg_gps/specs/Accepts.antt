@@ -8,6 +8,6 @@ use Rattle.meinberg_gps.specs.declared.GpsTime.{GpsTime}
 
 -- "A string or a DCF77 minute is accepted exactly when the rules in document 01 hold, and then every field, offset and
 -- flag is the one those rules give." (demand 2): a GPS string is accepted as g if it is as drawn, says g, keeps the
--- rules that only this format has, and the clock time of g is a reading
+-- rules that only this format has, and the clock time of g holds what every reading must
 abbrev pub AcceptsGps : List ℕ → GpsTime → Type 0
 AcceptsGps s g = AsDrawn gpsPicture s × SaysGps s g × RulesGps s × ReadingRules (g .time)

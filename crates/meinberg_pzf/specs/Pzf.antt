@@ -41,7 +41,8 @@ textWith t utc u v x y z a =
     ++ ascii "; " ++ digits 2 (t .hour) ++ ascii ":" ++ digits 2 (t .minute) ++ ascii ":" ++ digits 2 (t .second)
     ++ ascii "; " ++ (utc ∷ u ∷ v ∷ x ∷ y ∷ z ∷ a ∷ ascii "\u{3}")
 
--- the only string that could be read as a clock time: the offset decides t, and x is the summer flag
+-- the only string that could be read as a clock time: the offset decides the letter t of the layout, and x is
+-- the summer flag
 unfoldable pub pzfText : ClockTime → List ℕ
 pzfText t =
     textWith t (letter (eqℤ (t .«utc_offset») (pos 0)) "U")

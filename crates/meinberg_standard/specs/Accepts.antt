@@ -8,6 +8,6 @@ use Rattle.meinberg_standard.specs.Says.{standardPicture, SaysStandard}
 
 -- "A string or a DCF77 minute is accepted exactly when the rules in document 01 hold, and then every field, offset and
 -- flag is the one those rules give." (demand 2): a standard string is accepted as t if it is as drawn, says t, and
--- t is a reading
+-- t holds what every reading must
 abbrev pub AcceptsStandard : List ℕ → ClockTime → Type 0
 AcceptsStandard s t = AsDrawn standardPicture s × SaysStandard s t × ReadingRules t

@@ -15,6 +15,7 @@ Telling anyByte s = Unit {0}
 Telling letterD s = getD s 1 0 ≡ code "D"
 Telling otherByte s = getD s 1 0 ≡ code "D" → ⊥
 
+-- "66 long is GPS; 32 long is standard if place 1 holds `D`, else PZF; 21 long is ELV" (01, Meinberg and ELV strings):
 -- the string has the kind's length, and a byte at place 1 that tells the kind
 abbrev pub TellsKind : List ℕ → Kind → Type 0
 TellsKind s kind = let r = kindRow kind in (length s ≡ r .long) × Telling (r .telling) s

@@ -47,7 +47,7 @@ kindAnswer (kinds.Refused e) = refused (errorNumber e)
 abbrev pub kindNumber : Kind → ℕ
 kindNumber kind = kindRow kind .number
 
--- the kind that a number names; `Standard`, which nothing looks at, if it names none
+-- the kind that a number names; `Standard` if it names none, which plays no part, since 1 is given first
 abbrev pub namedKind : ℕ → Kind
 namedKind n = getD allKinds n Standard
 

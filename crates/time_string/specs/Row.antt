@@ -48,14 +48,14 @@ abbrev pub asReading : (shape : Shape) → Shaped shape → Reading
 asReading withoutPosition t = time t
 asReading withPosition g = timeAndPosition g
 
--- a reader's answer as that of a reading, by its shape
+-- a reader's answer, with what it accepted as a `Reading`
 abbrev pub shapedAnswer : (shape : Shape) → Answer (Shaped shape) → Answer Reading
 shapedAnswer shape (accepted a) = accepted (asReading shape a)
 shapedAnswer shape (refused k) = refused k
 
 -- ---- the row of a kind
--- how a kind is told from others of its length: not at all, since no other has it; by a `D` at place 1; or by any other
--- byte there
+-- how a kind is told from others of its length: not at all, since no other kind has its length; by a `D` at place 1; or
+-- by any other byte there
 pub data TellingByte : Type 0 where
   anyByte : TellingByte
   letterD : TellingByte

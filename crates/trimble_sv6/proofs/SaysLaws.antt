@@ -150,7 +150,7 @@ in-words =
         λ r. record {
           flags = refl;
           own = (
-            passes-exactly _ (sum-exactly s) .1 (r .sum),
+            passes-exactly _ (sum-exactly s) .1 (r .check-sum),
             (
               passes-exactly _ (eq-exactly _ _) .1 (r .valid),
               (passes-exactly _ (years-exactly s) .1 (r .years), tt),
@@ -159,7 +159,7 @@ in-words =
           agrees = refl;
         },
         λ n. record {
-          sum = passes-exactly _ (sum-exactly s) .0 (n .own .0);
+          check-sum = passes-exactly _ (sum-exactly s) .0 (n .own .0);
           valid = passes-exactly _ (eq-exactly _ _) .0 (n .own .1 .0);
           years = passes-exactly _ (years-exactly s) .0 (n .own .1 .1 .0);
         },

@@ -3,7 +3,7 @@ use Prim.Native.Nat.{ℕ}
 use mathlib.Core.Path.{_≡_, refl}
 use mathlib.Core.Logic.{_↔_}
 use mathlib.Core.Bool.{true}
-use mathlib.Core.List.{List, [], _∷_}
+use mathlib.Core.List.{List}
 use lib.Dec.{lit≤}
 use lib.ListN.{length}
 use Rattle.clock_time.specs.Errors.{accepted, refused}
@@ -20,7 +20,7 @@ use Rattle.layout.proofs.Theorems as text
 use Rattle.trimble_sv6.specs.Trimble.{trimbleFields, readTrimble}
 use Rattle.trimble_sv6.specs.Says.{trimblePicture, RulesTrimble, SaysTrimble}
 use Rattle.trimble_sv6.specs.Accepts.{AcceptsTrimble}
-use Rattle.trimble_sv6.specs.Lines.{trimbleLines}
+use Rattle.trimble_sv6.specs.Lines.{trimbleOrder, trimbleLines}
 use Rattle.trimble_sv6.specs.declared.TrimbleTime.{TrimbleTime}
 use Rattle.trimble_sv6.proofs.Checks.{trimbleChecks}
 use Rattle.trimble_sv6.proofs.SaysLaws.{yearly, read-yearly, in-words}
@@ -50,7 +50,7 @@ refused-trimble-exactly s n =
     (orders.refused-exactly (trimbleChecks s) (trimbleLines s) (trimble-agrees s) (trimbleFields s) n)
 
 -- "24, the sum is wrong or no hex, after 3; 25, v is not `1`, after 24" (02, T-01)
-pub order : (s : List ℕ) → numbersOf (trimbleLines s) ≡ 1 ∷ 2 ∷ 3 ∷ 24 ∷ 25 ∷ 5 ∷ 6 ∷ []
+pub order : (s : List ℕ) → numbersOf (trimbleLines s) ≡ trimbleOrder
 order s = refl
 
 -- a string that is as drawn and keeps the rules of its own says one clock time with milliseconds and no other

@@ -13,13 +13,17 @@ use Rattle.trimble_sv6.specs.Says.{trimblePicture, SumRules, YearRules, 
 use Rattle.trimble_sv6.specs.declared.TrimbleTime.{TrimbleTime}
 
 -- "Order for text: 1, 2, 3, 4, 8, 9, 5, 6, 7." (01, Refusal numbers); "Refusals: 24, the sum is wrong or no hex, after
--- 3; 25, v is not `1`, after 24." (02, T-01): 1, 2, 3, 24, 25, 5, 6. None of its places is a flag's of line 4,
--- it has no offset and no position, and "weekday is worked out" (02, T-01), so that there are no lines 4, 8, 9 and 7.
+-- 3; 25, v is not `1`, after 24." (02, T-01). None of its places is a flag's of line 4, it sends no offset and no
+-- position, and "weekday is worked out" (02, T-01), so that there are no lines 4, 8, 9 and 7.
+abbrev pub trimbleOrder : List ℕ
+trimbleOrder = 1 ∷ 2 ∷ 3 ∷ 24 ∷ 25 ∷ 5 ∷ 6 ∷ []
+
+-- the lines of a Trimble string, in this order
 abbrev pub trimbleLines : List ℕ → List Line
 trimbleLines s =
     -- "string length wrong for its kind"
     line 1 (length s ≡ length trimblePicture → ⊥)
-    -- "a fixed byte differs"; "rrrrr is any bytes from 32 to 126 (others give 2)" (02, T-01)
+    -- "a fixed byte differs" (01, Refusal numbers); "rrrrr is any bytes from 32 to 126 (others give 2)" (02, T-01)
     ∷ line 2 (Misplaced 2 trimblePicture s)
     -- "no digit in a digit place"
     ∷ line 3 (Misplaced 3 trimblePicture s)

@@ -14,7 +14,7 @@ use Rattle.trimble_sv6.specs.declared.TrimbleTime.{TrimbleTime}
 
 -- "`>RTM`, hh 4, mm 6, ss 8, ddd 10 (milliseconds), DD 13, MM 15, YYYY 17, oo 21, d 23, nn 24, v 26, rrrrr 27, `;*` 32,
 -- xx 34, `<` 36. All digits but v, xx and rrrrr; rrrrr is any bytes from 32 to 126" (02, T-01); in the order of
--- "`>RTMhhmmssdddDDMMYYYYoodnnvrrrrr;*xx<`" (001), with DD, MM and YYYY in small letters, since a capital letter stands
+-- ">RTMhhmmssdddDDMMYYYYoodnnvrrrrr;*xx<" (001), with DD, MM and YYYY in small letters, since a capital letter stands
 -- for itself in `drawn`
 abbrev pub trimblePicture : List Place
 trimblePicture =
@@ -22,14 +22,15 @@ trimblePicture =
     ++ (printable ∷ printable ∷ printable ∷ printable ∷ printable ∷ drawn ";*")
     ++ (free ∷ free ∷ drawn "<")
 
--- the numbers of the three and of the four digits from a place on
+-- the number of the three digits from a place on
 abbrev pub threeDigitsAt : List ℕ → ℕ → ℕ
 threeDigitsAt s i = 100 * digitAt s i + twoDigitsAt s (suc i)
 
+-- the number of the four digits from a place on
 abbrev pub fourDigitsAt : List ℕ → ℕ → ℕ
 fourDigitsAt s i = 100 * twoDigitsAt s i + twoDigitsAt s (suc (suc i))
 
--- ---- the sum
+-- ---- the check sum
 -- the bit k of a number, 1 if it is set, else 0
 abbrev pub bitAt : ℕ → ℕ → ℕ
 bitAt k n = n / 2 ^ k % 2
@@ -62,9 +63,10 @@ pub record YearRules (s : List ℕ) : Type 0 where
   pub least : 1970 ≤ fourDigitsAt s 17
   pub most : fourDigitsAt s 17 ≤ 2069
 
--- the format's own rules: not 24, not 25: "v is not `1`"; "v 26" (02, T-01), and its years
+-- the rules that only this format has: its check sum, else 24; v, else 25: "v is not `1`"; "v 26"; and its years, else
+-- 5 (02, T-01)
 pub record RulesTrimble (s : List ℕ) : Type 0 where
-  pub sum : SumRules s
+  pub check-sum : SumRules s
   pub valid : Stands s 26 "1"
   pub years : YearRules s
 

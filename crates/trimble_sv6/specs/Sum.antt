@@ -1,4 +1,4 @@
--- The sum of a Trimble string.
+-- The check sum of a Trimble string.
 use Prim.Native.Nat.{ℕ, zero, suc, _+_, _-_, _*_, _/_, _%_}
 use Prim.Native.Char.{code}
 use mathlib.Core.Bool.{Bool, cond, _&&_}
@@ -13,7 +13,7 @@ unfoldable pub xorOf : List ℕ → ℕ
 xorOf [] = 0
 xorOf (b ∷ s) = bitXor b (xorOf s)
 
--- of the n lowest bytes of a word
+-- the exclusive or of the n lowest bytes of a word
 unfoldable pub bytesXor : ℕ → ℕ → ℕ
 bytesXor zero w = 0
 bytesXor (suc n) w = bitXor (w % 256) (bytesXor n (w / 256))
@@ -30,7 +30,7 @@ hexDigit n = cond (ltb (n % 16) 10) (code "0" + n % 16) (code "A" + (n % 16 - 10
 unfoldable pub bytePair : ℕ → List ℕ → ℕ
 bytePair at s = getD s at 0 + 256 * getD s (suc at) 0
 
--- the two hex digits of a byte side by side, as one number of two bytes whose lower one is the first
+-- the two capital hex digits of a byte side by side, as one number of two bytes whose lower one is the first
 unfoldable pub hexPair : ℕ → ℕ
 hexPair n = hexDigit (n / 16) + 256 * hexDigit n
 

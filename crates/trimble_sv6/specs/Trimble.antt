@@ -20,7 +20,7 @@ unfoldable pub trimbleLayout : List ℕ
 trimbleLayout =
     ascii ">RTM" ++ places 22 digit ++ places 1 free ++ places 5 printable ++ ascii ";*" ++ places 2 free ++ ascii "<"
 
--- "Offset is 0, no flags" (02, T-01): the fields that are sent, with 0 for a weekday
+-- "Offset is 0, no flags" (02, T-01): the fields that are sent, with these and with 0 for a weekday
 unfoldable pub sentFields : List ℕ → ClockTime
 sentFields s =
     record {
@@ -54,7 +54,7 @@ readClock s =
     let t = trimbleFields s .time in checked (clockChecks (supportedDay t) t false) (trimbleFields s)
 
 -- the format; "24, the sum is wrong or no hex, after 3; 25, v is not `1`, after 24"; "years 1970 to 2069, else 5" (02,
--- T-01). No place is a flag's, so that 4 is never given, and a date of these years has a weekday, so that 7 is not.
+-- T-01). No place is a flag's of line 4, so that 4 is never given, and a date of these years has a weekday, so that 7 is not.
 unfoldable pub trimble : Format TrimbleTime
 trimble =
     record {

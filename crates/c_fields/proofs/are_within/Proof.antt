@@ -7,7 +7,7 @@ use mathlib.Core.Bool.{_&&_, and-true}
 use denote.Ref.{now}
 use lib.ListN.{length}
 use mir.Syntax.{w32}
-use Rattle.c_fields.specs.Ranges.{fits, ranges, at}
+use Rattle.c_fields.specs.Ranges.{fits, rangesBetween, at}
 use Rattle.c_numbers.proofs.NumberLaws.{kept}
 use Rattle.c_fields.proofs.RangeLaws.{fits-short, after, after-step, after-all}
 use Rattle.c_fields.proofs.are_within.Statement.{statement}
@@ -15,7 +15,7 @@ use Rattle.c_fields.proofs.are_within.Tie as tie
 
 abbrev Inv-loop : tie.InvT-loop
 Inv-loop least most z all₀ i₀ all i =
-    (i ≤ length least) × (length least ≤ length z) × (all && after least most z i ≡ fits (ranges least most) z)
+    (i ≤ length least) × (length least ≤ length z) × (all && after least most z i ≡ fits (rangesBetween least most) z)
 
 abbrev μ-loop : tie.MeasureT-loop
 μ-loop least most z all₀ i₀ all i = length least - i

@@ -1,12 +1,12 @@
 use borrow.Author.Needs.{needs}
 use Rattle.clock_time.specs.FieldRanges.{gpsRanges, timeRanges}
-use Rattle.c_fields.specs.Ranges.{ranges}
+use Rattle.c_fields.specs.Ranges.{rangesBetween}
 use Rattle.c_fields.proofs.RangeLaws.{all-fit, numbered-all, numbered-other}
 use Rattle.c_fields.proofs.gps_of.Statement.{statement}
 use Rattle.c_fields.proofs.gps_of.Tie as tie
 
 pub gps-of-spec : {M : Type 1} → statement M
-unfolding ranges gpsRanges timeRanges
+unfolding rangesBetween gpsRanges timeRanges
 gps-of-spec =
     tie.close
     (tie.spec (λ c. search needs) (λ c. search needs) (λ c κs. search needs)

@@ -1,11 +1,11 @@
 use borrow.Author.Needs.{needs}
 use Rattle.clock_time.specs.FieldRanges.{timeRanges}
-use Rattle.c_fields.specs.Ranges.{ranges}
+use Rattle.c_fields.specs.Ranges.{rangesBetween}
 use Rattle.c_fields.proofs.is_time.Statement.{statement}
 use Rattle.c_fields.proofs.is_time.Tie as tie
 
 returns : tie.Need-returns
-unfolding ranges timeRanges
+unfolding rangesBetween timeRanges
 returns c = c .are-within .ensures
 
 pub is-time-spec : {M : Type 1} → statement M

@@ -1,12 +1,12 @@
 use borrow.Author.Needs.{needs}
 use Rattle.clock_time.specs.FieldRanges.{timeRanges}
-use Rattle.c_fields.specs.Ranges.{ranges, minuteRanges}
+use Rattle.c_fields.specs.Ranges.{rangesBetween, minuteRanges}
 use Rattle.c_fields.proofs.RangeLaws.{all-fit, numbered-all, numbered-other}
 use Rattle.c_fields.proofs.minute_of.Statement.{statement}
 use Rattle.c_fields.proofs.minute_of.Tie as tie
 
 pub minute-of-spec : {M : Type 1} → statement M
-unfolding ranges minuteRanges timeRanges
+unfolding rangesBetween minuteRanges timeRanges
 minute-of-spec =
     tie.close
     (tie.spec (λ c. search needs) (λ c. search needs) (λ c κs. search needs)

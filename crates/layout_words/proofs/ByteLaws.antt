@@ -44,7 +44,7 @@ highOf p = bySample 128 0 128 p
 abbrev pub clear : ℕ → ℕ → ℕ → ℕ → Bool
 clear size more high x = eqb (bitAnd (bitOr x ((x + more) % size)) high) 0
 
-pub digit-test : (b : ℕ) → b < 256 → clear 256 118 128 (bitXor b 48) ≡ isDigit b
+digit-test : (b : ℕ) → b < 256 → clear 256 118 128 (bitXor b 48) ≡ isDigit b
 unfolding isDigit
 digit-test = same-test (λ b. clear 256 118 128 (bitXor b 48)) (λ b. isDigit b) tt
 

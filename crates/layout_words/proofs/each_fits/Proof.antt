@@ -3,8 +3,8 @@ use native.Mathlib.Omega.{arith}
 use mathlib.Core.List.{[], _∷_}
 use denote.Ref.{now}
 use Rattle.layout_words.specs.Words.{enough, sampleFits}
-use Rattle.layout_words.proofs.WordLaws.{bytes-of, bytes-enough}
-use Rattle.layout_words.proofs.SampleLaws.{test-word}
+use Rattle.layout_words.proofs.WordLaws.{bytes-enough}
+use Rattle.layout_words.proofs.SampleLaws.{bytesOf, test-word}
 use Rattle.layout_words.proofs.each_fits.Statement.{statement}
 use Rattle.layout_words.proofs.each_fits.Tie as tie
 
@@ -23,7 +23,7 @@ returns c =
       text .join .ensures,
       text .before .word-at .ensures,
     )
-    (test-word sample (enough (a .at) (now (a .s))) (a .at) (bytes-of sample (search needs))
+    (test-word (bytesOf sample (search needs)) (enough (a .at) (now (a .s))) (a .at)
     (bytes-enough (a .at) (now (a .s)) (λ i. omega (arith, known .shared-slice-known .given i))))
 
 pub each-fits-spec : {M : Type 1} → statement M

@@ -5,7 +5,7 @@ use mathlib.Core.Path.{_≡_, _∙_}
 use mathlib.Core.Bool.{true}
 use mathlib.Core.List.{List, [], _∷_}
 use lib.Dec.{eqb, lit<}
-use lib.Bits.{bitAnd, and-block, and-mask, and-zero-l}
+use lib.Bits.{bitAnd, and-block, and-le-r, and-mask, and-zero-l}
 use lib.ListN.{length, getD}
 use borrow.Author.Tests.{eqb-true}
 use Rattle.clock_time.proofs.Tests.{both}
@@ -13,9 +13,10 @@ use Rattle.clock_time.specs.Lists.{slice}
 use Rattle.decimal.specs.Decimal.{valueFrom}
 use Rattle.decimal.proofs.DecimalLaws.{digit-range}
 use Rattle.layout.specs.Layout.{digit, places, FitsLayout, number}
-use Rattle.layout_words.specs.Words.{word, lowPair, threeNumbers, numbersAt, fourNumbers, fourNumbersAt}
+use Rattle.layout_words.specs.Words.{word, enough, lowPair, threeNumbers, numbersAt, fourNumbers}
+use Rattle.layout_words.specs.Words.{fourNumbersAt}
 use Rattle.layout.proofs.LayoutLaws.{allDigits, place-within, digit-place}
-use Rattle.layout_words.proofs.WordLaws.{Bytes, enough-bytes}
+use Rattle.layout_words.proofs.WordLaws.{Bytes, bytes-enough, enough-bytes}
 
 -- ---- the low halves of bytes
 abbrev halves : (n at : ℕ) (s : List ℕ) → List ℕ
@@ -46,17 +47,11 @@ moved a s h = omega arith
 
 -- the numbers that the code makes of the low halves of eight bytes
 pub record Pairs (w at : ℕ) (s : List ℕ) : Type 0 where
-  pub small : 10 * w + w / 256 < 2 ^ 64
   pub first : (10 * w + w / 256) % 256 ≡ lowPair at s
   pub second : (10 * w + w / 256) / 256 / 256 / 256 % 256 ≡ lowPair (at + 3) s
   pub third : (10 * w + w / 256) / 256 / 256 / 256 / 256 / 256 / 256 % 256 ≡ lowPair (at + 6) s
   pub after-2 : (10 * w + w / 256) / 256 / 256 % 256 ≡ lowPair (at + 2) s
   pub after-4 : (10 * w + w / 256) / 256 / 256 / 256 / 256 % 256 ≡ lowPair (at + 4) s
-
-halves-small : (a b c d e f g h : ℕ) → a < 16 → b < 16 → c < 16 → d < 16 → e < 16 → f < 16 → g < 16 → h < 16
-    → 10 * word (a ∷ b ∷ c ∷ d ∷ e ∷ f ∷ g ∷ h ∷ []) + word (b ∷ c ∷ d ∷ e ∷ f ∷ g ∷ h ∷ []) < 2 ^ 64
-unfolding word
-halves-small a b c d e f g h ha hb hc hd he hf hg hh = omega arith
 
 low : (n : ℕ) → n % 16 < 16
 low n = omega arith
@@ -84,7 +79,6 @@ half-pairs at s =
     let n4 = pair-next _ _ (halves 2 i6 s) (l i4) (l i5) in
     let n5 = pair-next _ _ (halves 1 i7 s) (l i5) (l i6) in
     record {
-      small = rw m (halves-small _ _ _ _ _ _ _ _ (l at) (l i1) (l i2) (l i3) (l i4) (l i5) (l i6) (l i7));
       first = rw m (pair-here _ _ (halves 6 i2 s) (l at) (l i1));
       second = rw (m, n0, n1, n2, e3) (pair-here _ _ (halves 3 i5 s) (l i3) (l i4));
       third = rw (m, n0, n1, n2, n3, n4, n5, e6) (pair-here _ _ [] (l i6) (l i7));
@@ -92,8 +86,18 @@ half-pairs at s =
       after-4 = rw (m, n0, n1, n2, n3, e4) (pair-here _ _ (halves 2 i6 s) (l i4) (l i5));
     }
 
-pub pairs-of : (at : ℕ) (s : List ℕ) → Bytes s → Pairs (bitAnd (word (slice at 8 s)) (word (places 8 15))) at s
-pairs-of at s h = rw (word-halves 8 at s h) (half-pairs at s)
+-- ---- the code's sums: w is the word of eight bytes of a string, m the one that leaves their low halves
+module _ (w : ℕ) {m : ℕ} (halves : m ≡ word (places 8 15)) where
+  -- they are below 2 ^ 64
+  pub pairs-small : 10 * bitAnd w m + bitAnd w m / 256 < 2 ^ 64
+  unfolding word
+  pairs-small = rw halves (omega (arith, and-le-r w (word (places 8 15))))
+
+  -- they are the numbers of the pairs
+  pub pairs-at : (at : ℕ) (s : List ℕ) → w ≡ word (slice at 8 (enough at s)) → Bytes s
+      → Pairs (bitAnd w m) at (enough at s)
+  pairs-at at s e h =
+      rw (e, halves, word-halves 8 at (enough at s) (bytes-enough at s h)) (half-pairs at (enough at s))
 
 -- ---- digits
 module _ {l s : List ℕ} (h : FitsLayout l s) where

@@ -1,10 +1,11 @@
 -- Three or four pairs of digits at once: the code's sums on a word are the numbers of its pairs.
 use Prim.Native.Nat.{ℕ, zero, suc, _+_, _*_, _/_, _%_, _^_, _≤_, _<_}
+use native.Mathlib.Nat.{add-zero}
 use native.Mathlib.Omega.{arith}
-use mathlib.Core.Path.{_≡_, _∙_}
+use mathlib.Core.Path.{_≡_, refl, _∙_}
 use mathlib.Core.Bool.{true}
 use mathlib.Core.List.{List, [], _∷_}
-use lib.Dec.{eqb, lit<}
+use lib.Dec.{T, eqb, ltb, ltb→lt, lit<}
 use lib.Bits.{bitAnd, and-block, and-le-r, and-mask, and-zero-l}
 use lib.ListN.{length, getD}
 use borrow.Author.Tests.{eqb-true}
@@ -23,6 +24,7 @@ abbrev halves : (n at : ℕ) (s : List ℕ) → List ℕ
 halves zero at s = []
 halves (suc n) at s = getD s at 0 % 16 ∷ halves n (suc at) s
 
+-- the code's mask leaves them
 word-halves : (n at : ℕ) (s : List ℕ) → Bytes s
     → bitAnd (word (slice at n s)) (word (places n 15)) ≡ word (halves n at s)
 unfolding word
@@ -41,63 +43,74 @@ module _ (a b : ℕ) (s : List ℕ) (ha : a < 16) (hb : b < 16) where
   unfolding word
   pair-next = omega arith
 
+-- a low half is below 16
+low : (n : ℕ) → n % 16 < 16
+low n = omega arith
+
+-- a word moved by a byte has lost its lowest
 moved : (a : ℕ) (s : List ℕ) → a < 16 → word (a ∷ s) / 256 ≡ word s
 unfolding word
 moved a s h = omega arith
 
--- the numbers that the code makes of the low halves of eight bytes
-pub record Pairs (w at : ℕ) (s : List ℕ) : Type 0 where
-  pub first : (10 * w + w / 256) % 256 ≡ lowPair at s
-  pub second : (10 * w + w / 256) / 256 / 256 / 256 % 256 ≡ lowPair (at + 3) s
-  pub third : (10 * w + w / 256) / 256 / 256 / 256 / 256 / 256 / 256 % 256 ≡ lowPair (at + 6) s
-  pub after-2 : (10 * w + w / 256) / 256 / 256 % 256 ≡ lowPair (at + 2) s
-  pub after-4 : (10 * w + w / 256) / 256 / 256 / 256 / 256 % 256 ≡ lowPair (at + 4) s
+-- a word moved by bytes
+abbrev movedBy : ℕ → ℕ → ℕ
+movedBy zero w = w
+movedBy (suc k) w = movedBy k (w / 256)
 
-low : (n : ℕ) → n % 16 < 16
-low n = omega arith
-
-half-pairs : (at : ℕ) (s : List ℕ) → Pairs (word (halves 8 at s)) at s
+-- byte k of that sum is the number of the pair from place k on
+half-pair : (k n i at : ℕ) (s : List ℕ) → k < n → i ≡ at + k
+    → movedBy k (10 * word (halves (suc n) at s) + word (halves n (suc at) s)) % 256 ≡ lowPair i s
 unfolding lowPair
-half-pairs at s =
-    let l : (i : ℕ) → getD s i 0 % 16 < 16 = λ i. low (getD s i 0) in
-    let i1 = suc at in
-    let i2 = suc i1 in
-    let i3 = suc i2 in
-    let i4 = suc i3 in
-    let i5 = suc i4 in
-    let i6 = suc i5 in
-    let i7 = suc i6 in
-    let e2 : at + 2 ≡ i2 = omega arith in
-    let e3 : at + 3 ≡ i3 = omega arith in
-    let e4 : at + 4 ≡ i4 = omega arith in
-    let e6 : at + 6 ≡ i6 = omega arith in
-    let m = moved _ (halves 7 i1 s) (l at) in
-    let n0 = pair-next _ _ (halves 6 i2 s) (l at) (l i1) in
-    let n1 = pair-next _ _ (halves 5 i3 s) (l i1) (l i2) in
-    let n2 = pair-next _ _ (halves 4 i4 s) (l i2) (l i3) in
-    let n3 = pair-next _ _ (halves 3 i5 s) (l i3) (l i4) in
-    let n4 = pair-next _ _ (halves 2 i6 s) (l i4) (l i5) in
-    let n5 = pair-next _ _ (halves 1 i7 s) (l i5) (l i6) in
-    record {
-      first = rw m (pair-here _ _ (halves 6 i2 s) (l at) (l i1));
-      second = rw (m, n0, n1, n2, e3) (pair-here _ _ (halves 3 i5 s) (l i3) (l i4));
-      third = rw (m, n0, n1, n2, n3, n4, n5, e6) (pair-here _ _ [] (l i6) (l i7));
-      after-2 = rw (m, n0, n1, e2) (pair-here _ _ (halves 4 i4 s) (l i2) (l i3));
-      after-4 = rw (m, n0, n1, n2, n3, e4) (pair-here _ _ (halves 2 i6 s) (l i4) (l i5));
-    }
+half-pair k zero i at s h e = absurd (omega arith)
+half-pair zero (suc n) i at s h e =
+    let z : i ≡ at = omega arith in
+    rw z (pair-here _ _ (halves n (suc (suc at)) s) (low (getD s at 0)) (low (getD s (suc at) 0)))
+half-pair (suc k) (suc n) i at s h e =
+    rw (pair-next _ _ (halves n (suc (suc at)) s) (low (getD s at 0)) (low (getD s (suc at) 0)))
+    (half-pair k n i (suc at) s (omega arith) (omega arith))
 
 -- ---- the code's sums: w is the word of eight bytes of a string, m the one that leaves their low halves
-module _ (w : ℕ) {m : ℕ} (halves : m ≡ word (places 8 15)) where
-  -- they are below 2 ^ 64
-  pub pairs-small : 10 * bitAnd w m + bitAnd w m / 256 < 2 ^ 64
-  unfolding word
-  pairs-small = rw halves (omega (arith, and-le-r w (word (places 8 15))))
+module _ (w : ℕ) {m : ℕ} (mask : m ≡ word (places 8 15)) where
+  abbrev sums : ℕ
+  sums = 10 * bitAnd w m + bitAnd w m / 256
 
-  -- they are the numbers of the pairs
-  pub pairs-at : (at : ℕ) (s : List ℕ) → w ≡ word (slice at 8 (enough at s)) → Bytes s
-      → Pairs (bitAnd w m) at (enough at s)
-  pairs-at at s e h =
-      rw (e, halves, word-halves 8 at (enough at s) (bytes-enough at s h)) (half-pairs at (enough at s))
+  -- no more than a word holds
+  pub sums-small : sums < 2 ^ 64
+  unfolding word
+  sums-small = rw mask (omega (arith, and-le-r w (word (places 8 15))))
+
+  module _ (at : ℕ) (s : List ℕ) (e : w ≡ word (slice at 8 (enough at s))) (h : Bytes s) where
+    -- byte k is the number of the pair from place k on
+    pair-byte : (k : ℕ) → T (ltb k 7) → movedBy k sums % 256 ≡ lowPair (at + k) (enough at s)
+    pair-byte k few =
+        let t = enough at s in
+        rw (
+          e,
+          mask,
+          word-halves 8 at t (bytes-enough at s h),
+          moved (getD t at 0 % 16) (halves 7 (suc at) t) (low (getD t at 0)),
+        )
+        (half-pair k 7 (at + k) at t (ltb→lt k 7 few) refl)
+
+    -- byte 0 is that of the first
+    first-pair : sums % 256 ≡ lowPair at (enough at s)
+    first-pair = rw add-zero at (pair-byte 0 tt)
+
+    -- three pairs, with one byte between two
+    pub three-sums : record { first = sums % 256; second = movedBy 3 sums % 256; third = movedBy 6 sums % 256 }
+        ≡ numbersAt at s
+    unfolding numbersAt threeNumbers
+    three-sums = rw (first-pair, pair-byte 3 tt, pair-byte 6 tt)
+
+    -- four pairs, one after another
+    pub four-sums : record {
+      first = sums % 256;
+      second = movedBy 2 sums % 256;
+      third = movedBy 4 sums % 256;
+      fourth = movedBy 6 sums % 256;
+    } ≡ fourNumbersAt at s
+    unfolding fourNumbersAt fourNumbers
+    four-sums = rw (first-pair, pair-byte 2 tt, pair-byte 4 tt, pair-byte 6 tt)
 
 -- ---- digits
 module _ {l s : List ℕ} (h : FitsLayout l s) where

@@ -114,22 +114,32 @@ module _ (w : ℕ) {m : ℕ} (mask : m ≡ word (places 8 15)) where
 
 -- ---- digits
 module _ {l s : List ℕ} (h : FitsLayout l s) where
-  pub low-digit : (at : ℕ) → allDigits (slice at 1 l) ≡ true → getD s at 0 % 16 ≡ number 1 at s
+  -- the low half of a digit's byte is the digit
+  pub low-digit : (at : ℕ) → eqb (getD l at 0) digit ≡ true → getD s at 0 % 16 ≡ number 1 at s
   unfolding valueFrom
-  low-digit at d =
-      let w = both (eqb (getD l at 0) digit) true d in
-      omega (arith, digit-range (getD s at 0) (digit-place h at (w .0)))
+  low-digit at d = omega (arith, digit-range (getD s at 0) (digit-place h at d))
 
+  -- both places of a pair are a digit's
+  two-places : (at : ℕ) → allDigits (slice at 2 l) ≡ true
+      → (eqb (getD l at 0) digit ≡ true) × (eqb (getD l (suc at) 0) digit ≡ true)
+  two-places at d =
+      let w = both (eqb (getD l at 0) digit) (allDigits (slice (suc at) 1 l)) d in
+      (w .0, both (eqb (getD l (suc at) 0) digit) true (w .1) .0)
+
+  -- so it is for a pair
   pub low-pair : (at : ℕ) → allDigits (slice at 2 l) ≡ true → lowPair at s ≡ number 2 at s
   unfolding lowPair valueFrom
-  low-pair at d =
-      let w = both (eqb (getD l at 0) digit) (allDigits (slice (suc at) 1 l)) d in
-      let v = both (eqb (getD l (suc at) 0) digit) true (w .1) in
-      omega (
-        arith,
-        digit-range (getD s at 0) (digit-place h at (w .0)),
-        digit-range (getD s (suc at) 0) (digit-place h (suc at) (v .0)),
-      )
+  low-pair at d = let w = two-places at d in omega (arith, low-digit at (w .0), low-digit (suc at) (w .1))
+
+  -- a string that fits has as many bytes as its layout has places
+  all-places : (at : ℕ) → at + 8 ≤ length l → enough at s ≡ s
+  all-places at room = enough-bytes at s (omega (arith, h .long))
+
+  -- a pair at the end of eight places leaves room for them
+  eight-places : (at : ℕ) → allDigits (slice (at + 6) 2 l) ≡ true → at + 8 ≤ length l
+  eight-places at d =
+      let e = eqb-true (getD l (suc (at + 6)) 0) digit (two-places (at + 6) d .1) in
+      omega (arith, place-within l (suc (at + 6)) digit (lit< tt) e)
 
   -- two and three pairs of digits of a string that fits its layout
   pub numbers-two : (at : ℕ) → at + 8 ≤ length l → allDigits (slice at 2 l) ≡ true
@@ -137,26 +147,17 @@ module _ {l s : List ℕ} (h : FitsLayout l s) where
       → numbersAt at s
       ≡ record { first = number 2 at s; second = number 2 (at + 3) s; third = lowPair (at + 6) s }
   unfolding numbersAt threeNumbers
-  numbers-two at room a b =
-      let eight : at + 8 ≤ length s = omega (arith, h .long) in
-      rw (enough-bytes at s eight, low-pair at a, low-pair (at + 3) b)
+  numbers-two at room a b = rw (all-places at room, low-pair at a, low-pair (at + 3) b)
 
   pub numbers-fit : (at : ℕ) → allDigits (slice at 2 l) ≡ true → allDigits (slice (at + 3) 2 l) ≡ true
       → allDigits (slice (at + 6) 2 l) ≡ true
       → numbersAt at s
       ≡ record { first = number 2 at s; second = number 2 (at + 3) s; third = number 2 (at + 6) s }
-  numbers-fit at a b c = numbers-two at room a b ∙ rw (low-pair (at + 6) c)
-    where
-      room : at + 8 ≤ length l
-      room =
-          let w = both (eqb (getD l (at + 6) 0) digit) _ c in
-          let v = both (eqb (getD l (suc (at + 6)) 0) digit) true (w .1) in
-          omega (arith, place-within l (suc (at + 6)) digit (lit< tt) (eqb-true _ _ (v .0)))
+  numbers-fit at a b c = numbers-two at (eight-places at c) a b ∙ rw (low-pair (at + 6) c)
 
   -- four pairs of digits
-  pub numbers-four : (at : ℕ) → at + 8 ≤ length l → allDigits (slice at 2 l) ≡ true
-      → allDigits (slice (at + 2) 2 l) ≡ true → allDigits (slice (at + 4) 2 l) ≡ true
-      → allDigits (slice (at + 6) 2 l) ≡ true
+  pub numbers-four : (at : ℕ) → allDigits (slice at 2 l) ≡ true → allDigits (slice (at + 2) 2 l) ≡ true
+      → allDigits (slice (at + 4) 2 l) ≡ true → allDigits (slice (at + 6) 2 l) ≡ true
       → fourNumbersAt at s
       ≡ record {
         first = number 2 at s;
@@ -165,6 +166,6 @@ module _ {l s : List ℕ} (h : FitsLayout l s) where
         fourth = number 2 (at + 6) s;
       }
   unfolding fourNumbersAt fourNumbers
-  numbers-four at room a b c d =
-      let eight : at + 8 ≤ length s = omega (arith, h .long) in
-      rw (enough-bytes at s eight, low-pair at a, low-pair (at + 2) b, low-pair (at + 4) c, low-pair (at + 6) d)
+  numbers-four at a b c d =
+      let eight = all-places at (eight-places at d) in
+      rw (eight, low-pair at a, low-pair (at + 2) b, low-pair (at + 4) c, low-pair (at + 6) d)

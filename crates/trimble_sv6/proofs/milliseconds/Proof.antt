@@ -1,7 +1,6 @@
 use borrow.Author.Needs.{needs}
 use mathlib.Core.Path.{refl}
 use denote.Ref.{now}
-use lib.Dec.{lit≤}
 use Rattle.clock_time.specs.Lists.{ascii}
 use Rattle.layout_words.proofs.PairLaws.{low-digit, numbers-four}
 use Rattle.trimble_sv6.specs.Trimble.{trimbleLayout, millisecondsOf}
@@ -15,7 +14,7 @@ returns c =
     let n = c .before .before in
     let start = n .before .before in
     let f = start .pre .1 in
-    rw (n .four-numbers-at .ensures, numbers-four f 4 (lit≤ tt) refl refl refl refl, low-digit f 12 refl)
+    rw (n .four-numbers-at .ensures, numbers-four f 4 refl refl refl refl, low-digit f 12 refl)
     (three-number (now (start .args .s)) 10)
 
 pub milliseconds-spec : {M : Type 1} → statement M

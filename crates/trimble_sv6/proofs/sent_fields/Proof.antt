@@ -1,7 +1,5 @@
 use borrow.Author.Needs.{needs}
-use mathlib.Core.Path.{refl}
 use denote.Ref.{now}
-use lib.Dec.{lit≤}
 use Rattle.clock_time.specs.Lists.{ascii}
 use Rattle.layout_words.proofs.PairLaws.{numbers-four}
 use Rattle.trimble_sv6.specs.Trimble.{trimbleLayout, sentFields}
@@ -15,12 +13,10 @@ returns c =
     let date = c .before .before in
     let time = date .before in
     let start = time .before .before in
-    let f = start .pre .1 in
     simp (
       date .four-numbers-at2 .ensures,
       time .four-numbers-at .ensures,
-      numbers-four f 4 (lit≤ tt) refl refl refl refl,
-      numbers-four f 13 (lit≤ tt) refl refl refl refl,
+      numbers-four (start .pre .1),
       four-number (now (start .args .s)) 17,
     )
 

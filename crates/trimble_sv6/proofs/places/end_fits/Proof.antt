@@ -2,7 +2,6 @@
 use borrow.Author.Needs.{needs}
 use native.Mathlib.Omega.{arith}
 use denote.Ref.{now}
-use Rattle.layout.specs.Layout.{allowed, fitsFrom}
 use Rattle.trimble_sv6.proofs.PlaceLaws.{end-test}
 use Rattle.trimble_sv6.proofs.places.end_fits.Statement.{statement}
 use Rattle.trimble_sv6.proofs.places.end_fits.Tie as tie

@@ -9,45 +9,39 @@ use lib.Dec.{lit<}
 use lib.Pow.{pow-pos}
 use Rattle.trimble_sv6.specs.Says.{bitAt}
 
-differ-small : (x y : ℕ) → x < 2 → y < 2 → differ x y < 2
-differ-small zero y h k = k
-differ-small (suc x) zero h k = h
-differ-small (suc zero) (suc zero) h k = omega arith
-differ-small (suc (suc x)) (suc y) h k = absurd (omega arith)
-differ-small (suc zero) (suc (suc y)) h k = absurd (omega arith)
-
-differ-assoc : (x y z : ℕ) → x < 2 → y < 2 → z < 2 → differ (differ x y) z ≡ differ x (differ y z)
-differ-assoc zero y z h k l = refl
-differ-assoc (suc x) zero z h k l = refl
-differ-assoc (suc zero) (suc zero) zero h k l = refl
-differ-assoc (suc zero) (suc zero) (suc zero) h k l = refl
-differ-assoc (suc zero) (suc zero) (suc (suc z)) h k l = absurd (omega arith)
-differ-assoc (suc zero) (suc (suc y)) z h k l = absurd (omega arith)
-differ-assoc (suc (suc x)) (suc y) z h k l = absurd (omega arith)
+-- bits differ if their sum is odd
+differ-sum : (x y : ℕ) → x < 2 → y < 2 → differ x y ≡ (x + y) % 2
+differ-sum zero y h k = omega arith
+differ-sum (suc zero) zero h k = refl
+differ-sum (suc zero) (suc zero) h k = refl
+differ-sum (suc zero) (suc (suc y)) h k = absurd (omega arith)
+differ-sum (suc (suc x)) y h k = absurd (omega arith)
 
 -- the lowest bit, and the others
 module _ (a b : ℕ) where
-  bits-small : differ (a % 2) (b % 2) < 2
-  bits-small = differ-small (a % 2) (b % 2) (omega arith) (omega arith)
+  lowest : differ (a % 2) (b % 2) ≡ (a % 2 + b % 2) % 2
+  lowest = differ-sum (a % 2) (b % 2) (omega arith) (omega arith)
 
-  pub xor-low : bitXor a b % 2 ≡ differ (a % 2) (b % 2)
-  xor-low = omega (arith, xor-step a b, bits-small)
+  xor-low : bitXor a b % 2 ≡ (a % 2 + b % 2) % 2
+  xor-low = omega (arith, xor-step a b, lowest)
 
-  pub xor-half : bitXor a b / 2 ≡ bitXor (a / 2) (b / 2)
-  xor-half = omega (arith, xor-step a b, bits-small)
+  xor-half : bitXor a b / 2 ≡ bitXor (a / 2) (b / 2)
+  xor-half = omega (arith, xor-step a b, lowest)
 
 pub xor-assoc : (a b c : ℕ) → bitXor (bitXor a b) c ≡ bitXor a (bitXor b c)
 xor-assoc a =
     bin-ind (λ (a : ℕ). (b c : ℕ) → bitXor (bitXor a b) c ≡ bitXor a (bitXor b c)) (λ b c. refl) step a
   where
+    odd : (x y z : ℕ) → ((x + y) % 2 + z) % 2 ≡ (x + (y + z) % 2) % 2
+    odd x y z = omega arith
+
     step : (a : ℕ) → ((b c : ℕ) → bitXor (bitXor (a / 2) b) c ≡ bitXor (a / 2) (bitXor b c)) → (b c : ℕ)
         → bitXor (bitXor a b) c ≡ bitXor a (bitXor b c)
     step a ih b c =
         xor-step (bitXor a b) c
         ∙ ap₂ (λ (x y : ℕ). x * 2 + y)
         (rw (xor-half a b) (ih (b / 2) (c / 2)) ∙ ap (bitXor (a / 2)) (sym (xor-half b c)))
-        (rw (xor-low a b, xor-low b c)
-        (differ-assoc (a % 2) (b % 2) (c % 2) (omega arith) (omega arith) (omega arith)))
+        (rw (lowest (bitXor a b) c, lowest a (bitXor b c), xor-low a b, xor-low b c) (odd (a % 2) (b % 2) (c % 2)))
         ∙ sym (xor-step a (bitXor b c))
 
 -- of two pairs, in another order
@@ -58,19 +52,11 @@ xor-exchange a b c d =
     ∙ sym (xor-assoc a c (bitXor b d))
 
 -- ---- bits
-differ-sum : (x y : ℕ) → x < 2 → y < 2 → differ x y ≡ (x + y) % 2
-differ-sum zero y h k = omega arith
-differ-sum (suc zero) zero h k = refl
-differ-sum (suc zero) (suc zero) h k = refl
-differ-sum (suc zero) (suc (suc y)) h k = absurd (omega arith)
-differ-sum (suc (suc x)) y h k = absurd (omega arith)
-
 -- a bit of it is set if just one of the two is
 pub bit-xor : (k a b : ℕ) → bitAt k (bitXor a b) ≡ (bitAt k a + bitAt k b) % 2
 bit-xor k a b =
     ap (λ (x : ℕ). x % 2) (xor-shr a b k)
     ∙ xor-low (a / 2 ^ k) (b / 2 ^ k)
-    ∙ differ-sum (bitAt k a) (bitAt k b) (omega arith) (omega arith)
 
 pub bit-zero : (k : ℕ) → bitAt k 0 ≡ 0
 bit-zero k = rw (zero-div (2 ^ k))

@@ -74,7 +74,8 @@ date-agrees year month day = (refl, not-exactly _ (supported-exactly year month 
 pub room-agrees : (count : ℕ) (fields : List ℤ) → Agree (roomCheck count fields ∷ []) (noRoomFor count fields ∷ [])
 room-agrees count fields = (refl, lt-exactly _ _, λ p. tt)
 
-pub read-agrees : (kind : Kind) (s : List ℕ) (fields : List ℤ) → Agree (readChecks kind s fields) (readLines kind s fields)
+pub read-agrees : (kind : Kind) (s : List ℕ) (fields : List ℤ)
+    → Agree (readChecks kind s fields) (readLines kind s fields)
 read-agrees kind s fields =
     agree-append (checksAs kind s) (linesAs kind s) _ _ (kind-laws kind .row .agree s)
     (λ q. room-agrees (numberCount kind) fields)

@@ -222,7 +222,8 @@ c-read kind s fields =
     (readInto (kindNumber kind) s fields)
     (rw (← (agrees.read-numbers kind s fields))
     (keeps
-    (decided (readChecks kind s fields) _ _ _ _ _ (agrees.read-agrees kind s fields) (entry.read-checks kind s fields))))
+    (decided (readChecks kind s fields) _ _ _ _ _ (agrees.read-agrees kind s fields)
+    (entry.read-checks kind s fields))))
 
 -- "an unknown kind number from C gives 1" (01, Meinberg and ELV strings)
 pub c-read-unknown : (n : ℕ) (s : List ℕ) (fields : List ℤ) → ((kind : Kind) → n ≡ kindNumber kind → ⊥)

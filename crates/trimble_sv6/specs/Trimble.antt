@@ -54,7 +54,8 @@ readClock s =
     let t = trimbleFields s .time in checked (clockChecks (supportedDay t) t false) (trimbleFields s)
 
 -- the format; "24, the sum is wrong or no hex, after 3; 25, v is not `1`, after 24"; "years 1970 to 2069, else 5" (02,
--- T-01). No place is a flag's of line 4, so that 4 is never given, and a date of these years has a weekday, so that 7 is not.
+-- T-01). No place is a flag's of line 4, so that 4 is never given, and a date of these years has a weekday, so that 7
+-- is not.
 unfoldable pub trimble : Format TrimbleTime
 trimble =
     record {

@@ -80,9 +80,13 @@ minuteFrom z =
 unfoldable pub numbered : {A : Type 0} → Bool → A → Answer A
 numbered fit a = checked (given 23 (not fit) ∷ []) a
 
+-- what numbers stand for, if there is one for each range and it is in it, and none after those
+abbrev pub numberedIn : {A : Type 0} → List Range → (List ℤ → A) → List ℤ → Answer A
+numberedIn rs from z = numbered (fitsAll rs z) (from z)
+
 -- the clock time of 14 numbers
 abbrev pub timeOf : List ℤ → Answer ClockTime
-timeOf z = numbered (fitsAll timeRanges z) (timeFrom z)
+timeOf z = numberedIn timeRanges timeFrom z
 
 -- the clock time of the first 14 numbers
 abbrev pub firstTimeOf : List ℤ → Answer ClockTime
@@ -90,8 +94,8 @@ firstTimeOf z = numbered (fits timeRanges z) (timeFrom z)
 
 -- the clock time and position of 17 numbers
 abbrev pub gpsOf : List ℤ → Answer GpsTime
-gpsOf z = numbered (fitsAll gpsRanges z) (gpsFrom z)
+gpsOf z = numberedIn gpsRanges gpsFrom z
 
 -- the minute of 16 numbers
 abbrev pub minuteOf : List ℤ → Answer MinuteTime
-minuteOf z = numbered (fitsAll minuteRanges z) (minuteFrom z)
+minuteOf z = numberedIn minuteRanges minuteFrom z

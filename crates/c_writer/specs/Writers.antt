@@ -17,7 +17,7 @@ use Rattle.time_string.specs.Row.{Shape, withoutPosition, withPosition, Shaped,
 use Rattle.time_string.specs.Kind.{kindNumber, kindNamed}
 use Rattle.time_string.specs.declared.Kind.{Kind}
 use Rattle.time_string.specs.declared.Kind.the-variants.{Standard, Pzf}
-use Rattle.c_fields.specs.Ranges.{fitsAll, timeFrom, gpsFrom, numbered, timeOf, minuteOf}
+use Rattle.c_fields.specs.Ranges.{timeFrom, gpsFrom, numberedIn, timeOf, minuteOf}
 
 -- what the numbers of a reading stand for, by whether it has a position
 abbrev pub shapedFrom : (shape : Shape) → List ℤ → Shaped shape
@@ -26,7 +26,7 @@ shapedFrom withPosition z = gpsFrom z
 
 -- the same if there is one number for each range of the row, and it is in it; else 23
 abbrev pub valueOf : (r : KindRow) → List ℤ → Answer (Shaped (r .shape))
-valueOf r z = numbered (fitsAll (r .ranges) z) (shapedFrom (r .shape) z)
+valueOf r z = numberedIn (r .ranges) (shapedFrom (r .shape)) z
 
 -- "For a writer: 23, 20" (01, Refusal numbers): 23 if the numbers are no reading's, else what the writer of the row's
 -- format leaves

@@ -29,9 +29,6 @@ pub length-between : (n : ℕ) → not (eqb n 59 || eqb n 60) ≡ false → (59 
 length-between n h =
     ⊎-elim (λ e. (omega arith, omega arith)) (λ e. (omega arith, omega arith)) (two-lengths n (not-false _ h))
 
-pub length-known : (n : ℕ) → (n ≡ 59) ⊎ (n ≡ 60) → (eqb n 59 || eqb n 60) ≡ true
-length-known n h = ⊎-elim (λ e. rw e) (λ e. rw e) h
-
 -- ---- the checks by parts
 -- each number is one of 5 to 19
 abbrev within : List Check → Bool

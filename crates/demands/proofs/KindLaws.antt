@@ -20,7 +20,7 @@ use Rattle.time_string.specs.Accepted.{AcceptsRow, AcceptsAs}
 use Rattle.time_string.specs.declared.Kind.{Kind}
 use Rattle.time_string.proofs.KindLaws.{clockIn, PositionFits, shapeRanges, RowLaws, kind-laws}
 use Rattle.c_numbers.specs.Numbers.{timeNumbers, gpsNumbers}
-use Rattle.c_fields.specs.Ranges.{fitsAll, numbered}
+use Rattle.c_fields.specs.Ranges.{numbered, numberedIn}
 use Rattle.c_fields.proofs.Theorems as fields
 use Rattle.c_writer.specs.Writers.{shapedFrom, writeRow}
 use Rattle.c_readings.specs.Strings.{readingNumbers}
@@ -32,7 +32,7 @@ use Rattle.demands.proofs.FitsLaws.{valid-fits}
 -- ---- what a reading is by its shape
 -- what the numbers of a reading stand for
 abbrev shapedOf : (shape : Shape) → List ℤ → Answer (Shaped shape)
-shapedOf shape z = numbered (fitsAll (shapeRanges shape) z) (shapedFrom shape z)
+shapedOf shape z = numberedIn (shapeRanges shape) (shapedFrom shape) z
 
 -- what a format gives, handed on as a reading with a clock time in it, and as numbers that stand for it
 record Handed (shape : Shape) : Type 0 where

@@ -1,4 +1,6 @@
 // Bits and bytes as numbers: a bit, the parity of a number's bits, and eight bytes side by side.
+#![tactic(auto)]
+
 ghost use Rattle.std.specs.Prelude.{◌≡◌, cond, ◌+◌, ◌*◌, ◌%◌};
 ghost use Rattle.std.specs.Int.Count.{ones};
 

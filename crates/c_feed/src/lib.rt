@@ -1,4 +1,6 @@
 // The serial feed over a state of 68 bytes: 66 kept bytes, their count and the mode.
+#![tactic(auto)]
+
 ghost use Rattle.std.specs.Prelude.{◌≡◌, ◌++◌, ◌≤◌, length, drop};
 ghost use Rattle.clock_time.specs.Called.{called, called_memory};
 ghost use Rattle.c_feed.specs.Feed.{mode_number, mode_of, framer_in, state_bytes, event_number, feed_memory, feed_into};

@@ -1,4 +1,6 @@
 // Numbers as the readings that they stand for.
+#![tactic(auto)]
+
 ghost use Rattle.std.specs.Prelude.{◌≡◌, true, ◌<◌, nat_abs, length};
 ghost use Rattle.c_fields.specs.Numbered.{numbered_time, numbered_gps, numbered_minute};
 ghost use Rattle.clock_time.specs.FieldRanges.{within, up_to, i16_range, time_ranges, gps_ranges};

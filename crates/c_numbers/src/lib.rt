@@ -1,4 +1,6 @@
 // Readings as numbers in lent memory.
+#![tactic(auto)]
+
 ghost use Rattle.std.specs.Prelude.{◌≡◌, [], ◌∷◌, ◌++◌, ◌≤◌, pos, length, take, drop};
 ghost use Rattle.meinberg_gps.specs.Gps.{gps_answer};
 ghost use Rattle.dcf77.specs.Minute.{minute_answer};

@@ -1,5 +1,7 @@
 // The C API of recordings: the outcomes of a recording of marks. Each exported function returns 0, or the number of
 // its refusal, and leaves its results in memory that the caller lends. A refusal changes nothing lent.
+#![tactic(auto)]
+
 ghost use Rattle.std.specs.Prelude.{◌≡◌};
 ghost use Rattle.recording.specs.Recording.{outcome_at, fill_outcomes, recorded, correct_mark};
 ghost use Rattle.clock_time.specs.Called.{called, called_answer, called_memory, called_both};

@@ -1,4 +1,6 @@
 // The numbers of a reading as a string of a kind, or as a run of marks.
+#![tactic(auto)]
+
 ghost use Rattle.std.specs.Prelude.{◌≡◌};
 ghost use Rattle.clock_time.specs.Writing.{written};
 ghost use Rattle.time_string.specs.declared.Kind.{Kind};

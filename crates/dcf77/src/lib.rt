@@ -1,4 +1,6 @@
 // One DCF77 minute: reading a run of marks.
+#![tactic(auto)]
+
 ghost use Rattle.std.specs.Prelude.{◌≡◌};
 ghost use Rattle.dcf77.specs.Minute.{read_minute, minute_answer};
 

@@ -1,4 +1,6 @@
 // The number of a run of marks, and the Unix time that such a number announces.
+#![tactic(auto)]
+
 ghost use Rattle.std.specs.Prelude.{◌≡◌, true, ◌+◌, ◌-◌, ◌*◌, ◌/◌, ◌%◌, ◌≤◌, ◌<◌, eqb, pos};
 ghost use Rattle.clock_time.specs.Errors.{accepted};
 ghost use Rattle.clock_time.specs.Zone.{cet_offset};

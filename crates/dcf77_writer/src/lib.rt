@@ -1,4 +1,6 @@
 // Writing a DCF77 minute as a run of marks.
+#![tactic(auto)]
+
 ghost use Rattle.std.specs.Prelude.{◌≡◌};
 ghost use Rattle.clock_time.specs.Writing.{written};
 ghost use Rattle.dcf77.specs.Minute.{write_minute};

@@ -1,4 +1,6 @@
 // Decimal digits: which bytes they are, and two of them side by side.
+#![tactic(auto)]
+
 ghost use Rattle.std.specs.Prelude.{◌≡◌};
 ghost use Rattle.decimal.specs.Decimal.{is_digit, digit_pair};
 

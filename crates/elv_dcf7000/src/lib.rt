@@ -1,4 +1,6 @@
 // The string of an ELV DCF7000 clock.
+#![tactic(auto)]
+
 ghost use Rattle.std.specs.Prelude.{◌≡◌, true, false, length};
 ghost use Rattle.clock_time.specs.Errors.{error_number};
 ghost use Rattle.clock_time.specs.Reading.{read_answer};

@@ -1,4 +1,6 @@
 // The writer of the string of an ELV DCF7000 clock.
+#![tactic(auto)]
+
 ghost use Rattle.std.specs.Prelude.{◌≡◌};
 ghost use Rattle.clock_time.specs.Writing.{written};
 ghost use Rattle.elv_dcf7000.specs.Elv.{flag_sum, text_with, elv_text, elv_representable, write_elv};

@@ -1,4 +1,6 @@
 // Cuts the strings that STX and ETX enclose out of a stream of bytes.
+#![tactic(auto)]
+
 ghost use Rattle.std.specs.Prelude.{◌≡◌, take};
 ghost use Rattle.framing.specs.Step.{start, framer_of, step_of};
 ghost use Rattle.framing.specs.Feed.{feed_of};

@@ -1,5 +1,7 @@
 // The layouts of time strings: which error a string has that does not fit, and the checks of a clock time that every
 // format shares.
+#![tactic(auto)]
+
 ghost use Rattle.std.specs.Prelude.{◌≡◌, length, cond, false};
 ghost use Rattle.clock_time.specs.Errors.{error_number, checked};
 ghost use Rattle.clock_time.specs.Reading.{read_answer};

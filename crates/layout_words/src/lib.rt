@@ -1,5 +1,7 @@
 // Eight bytes at once, as one number: whether they fit a sample or flags, and the numbers of three or four pairs of
 // digits.
+#![tactic(auto)]
+
 ghost use Rattle.std.specs.Prelude.{◌≡◌, [], ◌∷◌};
 ghost use Rattle.clock_time.specs.Lists.{slice};
 ghost use Rattle.layout_words.specs.Words.{word, enough, sample_fits, by_sample, each_by_sample, numbers_at};

@@ -1,5 +1,7 @@
 // Lists the strings on standard input or in a file: a heading, a line for each string, and the totals. The lines of
 // what has come are written after each read. A failure to read or write is told on standard error.
+#![tactic(auto)]
+
 mod output;
 mod request;
 

@@ -1,4 +1,6 @@
 // The listing of the strings in a stream of bytes, line by line.
+#![tactic(auto)]
+
 ghost use Rattle.std.specs.Prelude.{◌≡◌, ◌+◌, ◌≤◌, length};
 ghost use Rattle.std.proofs.Math.Seq.{paste};
 ghost use Rattle.listing.specs.Listing.{start, listed_into, list_of};

@@ -1,4 +1,6 @@
 // The lines of a listing, written to lent memory.
+#![tactic(auto)]
+
 ghost use Rattle.std.specs.Prelude.{◌≡◌};
 ghost use Rattle.clock_time.specs.Writing.{written};
 ghost use Rattle.listing_lines.specs.Line.{write_line};

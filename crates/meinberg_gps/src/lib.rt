@@ -1,4 +1,6 @@
 // The Meinberg GPS string.
+#![tactic(auto)]
+
 ghost use Rattle.std.specs.Prelude.{◌≡◌, length};
 ghost use Rattle.layout.specs.Layout.{FitsLayout};
 ghost use Rattle.meinberg_gps.specs.Gps.{gps_layout, leap_mismatch, clock_of, read_clock, read_gps, gps_answer};

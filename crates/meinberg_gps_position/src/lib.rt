@@ -1,4 +1,6 @@
 // The position of a GPS string: two angles and a height, read from the string and written as its bytes.
+#![tactic(auto)]
+
 ghost use Rattle.std.specs.Prelude.{◌≡◌, true, ◌&&◌, [], ◌∷◌, ◌≤◌, length};
 ghost use Rattle.layout.specs.Layout.{number};
 ghost use Rattle.decimal.specs.Decimal.{value};

@@ -1,4 +1,6 @@
 // The writer of the Meinberg GPS string.
+#![tactic(auto)]
+
 ghost use Rattle.std.specs.Prelude.{◌≡◌};
 ghost use Rattle.clock_time.specs.Writing.{written};
 ghost use Rattle.meinberg_gps.specs.Gps.{write_gps};

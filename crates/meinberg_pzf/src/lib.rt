@@ -1,4 +1,6 @@
 // The Meinberg PZF string.
+#![tactic(auto)]
+
 ghost use Rattle.std.specs.Prelude.{◌≡◌, true, length};
 ghost use Rattle.clock_time.specs.Errors.{error_number};
 ghost use Rattle.clock_time.specs.Reading.{read_answer};

@@ -1,4 +1,6 @@
 // The writer of the Meinberg PZF string.
+#![tactic(auto)]
+
 ghost use Rattle.std.specs.Prelude.{◌≡◌};
 ghost use Rattle.clock_time.specs.Writing.{written};
 ghost use Rattle.meinberg_pzf.specs.Pzf.{text_with, pzf_text, pzf_representable, write_pzf};

@@ -1,4 +1,6 @@
 // The writer of the Meinberg standard string.
+#![tactic(auto)]
+
 ghost use Rattle.std.specs.Prelude.{◌≡◌};
 ghost use Rattle.clock_time.specs.Writing.{written};
 ghost use Rattle.meinberg_standard.specs.Standard.{zone_letter, announced_letter, text_with, standard_text};

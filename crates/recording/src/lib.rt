@@ -1,4 +1,6 @@
 // A recording of DCF77 marks and its outcomes: the number at a place, at every place, and the correction of a mark.
+#![tactic(auto)]
+
 ghost use Rattle.std.specs.Prelude.{◌≡◌, ◌<◌, length, set};
 ghost use Rattle.recording.specs.Recording.{outcome_answer, outcome_at, unfit, filling, fill_outcomes};
 ghost use Rattle.recording.specs.Recording.{correction, correct_mark};

@@ -1,4 +1,6 @@
 // Signed numbers: from a sign and a magnitude, and back.
+#![tactic(auto)]
+
 ghost use Rattle.std.specs.Prelude.{◌≡◌, nat_abs};
 ghost use Rattle.signed.specs.Signed.{signed, sign_holds, sign_byte};
 

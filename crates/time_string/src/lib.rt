@@ -1,4 +1,6 @@
 // Time strings of any kind: telling the kind of a string, and reading a string of a named kind.
+#![tactic(auto)]
+
 ghost use Rattle.std.specs.Prelude.{◌≡◌};
 ghost use Rattle.clock_time.specs.Reading.{read_answer};
 ghost use Rattle.time_string.specs.Row.{Shape, shaped_answer};

@@ -1,4 +1,6 @@
 // The string of a Trimble SV6 receiver.
+#![tactic(auto)]
+
 ghost use Rattle.std.specs.Prelude.{◌≡◌, length};
 ghost use Rattle.layout.specs.Layout.{FitsLayout};
 ghost use Rattle.trimble_sv6.specs.Trimble.{trimble_layout, sent_fields, milliseconds_of, read_clock, read_trimble};

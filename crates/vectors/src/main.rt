@@ -1,6 +1,8 @@
 // Runs a table of commands: writes each line of standard input with what the library answers. A command is a word, then
 // numbers, each after a blank, and perhaps a text, after a colon and a blank. Headings, which start with `#`, and empty
 // lines are only copied.
+#![tactic(auto)]
+
 mod commands;
 mod dates;
 mod day;

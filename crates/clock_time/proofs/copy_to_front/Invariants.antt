@@ -1,0 +1,13 @@
+-- The invariant: the first `i` bytes are the new ones, and the rest is as it was.
+use native.Mathlib.Omega.{arith}
+use Prim.Native.Nat.{◌-◌}
+use borrow.Author.Rules.{rules}
+use lib.ListN.{length}
+use Rattle.clock_time.proofs.CopyLaws.{Copied, copied_none, copied_more, copied_all}
+use Rattle.clock_time.proofs.copy_to_front.Given as goal
+
+abbrev pub invariant-loop-i : goal.invariant-loop-i
+invariant-loop-i l = Copied l.bytes l.initial.out l.out l.i
+
+abbrev pub decreases-loop-i : goal.decreases-loop-i
+decreases-loop-i l = length l.bytes - l.i

@@ -2,7 +2,7 @@
 use Prim.Native.Nat.{ℕ, zero, suc, ◌^◌, ◌≤◌, ◌<◌}
 use native.Mathlib.Omega.{arith}
 use mathlib.Core.Path.{◌≡◌, refl}
-use mathlib.Core.Bool.{Bool, true, false, ◌&&◌, false≢true, and_assoc, and_false}
+use mathlib.Core.Bool.{Bool, true, false, ◌&&◌, false≢true, and_assoc, and-false}
 use mathlib.Core.List.{List, [], ◌∷◌, ◌++◌}
 use lib.Dec.{T, leb, eqb}
 use lib.ListN.{length, get_or, drop, drop_of_length-le}
@@ -71,7 +71,7 @@ fits_short [] most z e h = absurd (omega arith)
 fits_short (a ∷ least) [] z e h = absurd (omega (arith, e))
 fits_short (a ∷ least) (b ∷ most) [] e h = refl
 fits_short (a ∷ least) (b ∷ most) (x ∷ z) e h =
-    rw (fits_short least most z (omega (arith, e)) (omega arith)) (and_false (within (range a b) x))
+    rw (fits_short least most z (omega (arith, e)) (omega arith)) (and-false (within (range a b) x))
 
 -- ---- the answer
 pub numbered_fit : {A : Type 0} {fit : Bool} {a b : A} → fit ≡ true → b ≡ a → accepted b ≡ numbered fit a

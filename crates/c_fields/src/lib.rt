@@ -14,21 +14,21 @@ use dcf77::MinuteTime;
 use meinberg_gps::GpsTime;
 
 // The clock time that numbers stand for, or the error. No string is read here, so these are types of their own.
-#[derive(Drop)]
+#[derive(Clone, Copy)]
 pub enum NumberedTime {
     Time(ClockTime),
     Refused(Error),
 }
 
 // The clock time and position that numbers stand for, or the error.
-#[derive(Drop)]
+#[derive(Clone, Copy)]
 pub enum NumberedGps {
     Gps(GpsTime),
     Refused(Error),
 }
 
 // The minute that numbers stand for, or the error.
-#[derive(Drop)]
+#[derive(Clone, Copy)]
 pub enum NumberedMinute {
     Minute(MinuteTime),
     Refused(Error),

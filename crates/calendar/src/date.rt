@@ -8,7 +8,7 @@ use clock_time::{ClockTime, Error};
 use gregorian::{FIRST_YEAR, LAST_YEAR};
 
 // A number worked out from a date, or the error.
-#[derive(Drop)]
+#[derive(Clone, Copy)]
 pub enum DateAnswer {
     Number(u32),
     Refused(Error),

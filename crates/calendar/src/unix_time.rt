@@ -7,7 +7,7 @@ use clock_time::{ClockTime, Error};
 use gregorian::{FIRST_YEAR, LAST_YEAR};
 
 // Seconds from 1 January 1970 00:00:00 UTC, or the error.
-#[derive(Drop)]
+#[derive(Clone, Copy)]
 pub enum UnixTime {
     At(i64),
     Refused(Error),

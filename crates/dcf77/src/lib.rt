@@ -10,14 +10,14 @@ pub mod marks;
 mod reading;
 
 // The time that a minute announces, with its marks 1 to 14 and whether it had 60.
-#[derive(Drop)]
+#[derive(Clone, Copy)]
 pub struct MinuteTime {
     pub time: ClockTime,
     pub detail: MinuteDetail,
 }
 
 // The minute that was read, or the error.
-#[derive(Drop)]
+#[derive(Clone, Copy)]
 pub enum MinuteAnswer {
     Read(MinuteTime),
     Refused(Error),

@@ -9,7 +9,7 @@ mod runs;
 mod single;
 
 // Where a state stands.
-#[derive(Drop)]
+#[derive(Clone, Copy)]
 pub enum Mode {
     Outside,
     Inside,
@@ -17,7 +17,7 @@ pub enum Mode {
 }
 
 // The state between two bytes: of a string that goes on, the first `count` of `bytes` are kept.
-#[derive(Drop)]
+#[derive(Clone, Copy)]
 pub struct Framer {
     pub bytes: [u8; 66],
     pub count: usize,
@@ -25,7 +25,7 @@ pub struct Framer {
 }
 
 // What a byte ends: nothing yet, a kept string of so many bytes, or an overlong string.
-#[derive(Drop)]
+#[derive(Clone, Copy)]
 pub enum Event {
     Nothing,
     Complete(usize),
@@ -33,14 +33,14 @@ pub enum Event {
 }
 
 // The state after a byte, with the byte's event.
-#[derive(Drop)]
+#[derive(Clone, Copy)]
 pub struct StepResult {
     pub framer: Framer,
     pub event: Event,
 }
 
 // The state after the bytes taken of a slice, with the event of the last.
-#[derive(Drop)]
+#[derive(Clone, Copy)]
 pub struct FeedResult {
     pub framer: Framer,
     pub event: Event,

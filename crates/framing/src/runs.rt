@@ -6,7 +6,7 @@ ghost use Rattle.framing.specs.Run.{Taken, Skipped, Plain, copied};
 use crate::Mode;
 
 // How many bytes are kept after a run, and the run's length.
-#[derive(Drop)]
+#[derive(Clone, Copy)]
 pub(crate) struct Passed {
     pub(crate) count: usize,
     pub(crate) taken: usize,

@@ -7,7 +7,7 @@ ghost use Rattle.framing.specs.Run.{moved};
 use crate::{Event, Mode};
 
 // A state but for its bytes, with what the last byte ended.
-#[derive(Drop)]
+#[derive(Clone, Copy)]
 pub(crate) struct Moved {
     pub(crate) count: usize,
     pub(crate) mode: Mode,

@@ -8,7 +8,7 @@ ghost use Rattle.layout_words.specs.Words.{word, enough, sample_fits, by_sample,
 ghost use Rattle.layout_words.specs.Words.{four_numbers_at, flags_fit, nonzero_bytes};
 
 // The numbers of three pairs of digits: of a date, of a time.
-#[derive(Drop)]
+#[derive(Clone, Copy)]
 pub struct ThreeNumbers {
     pub first: u8,
     pub second: u8,
@@ -16,7 +16,7 @@ pub struct ThreeNumbers {
 }
 
 // The numbers of four pairs of digits.
-#[derive(Drop)]
+#[derive(Clone, Copy)]
 pub struct FourNumbers {
     pub first: u8,
     pub second: u8,

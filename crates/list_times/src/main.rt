@@ -18,14 +18,14 @@ use listing::Listing;
 use request::Request;
 
 // The state between two reads; `is_open` until a write fails.
-#[derive(Drop)]
+#[derive(Clone, Copy)]
 struct State {
     listing: Listing,
     is_open: bool,
 }
 
 // The listing after the bytes taken, and whether their text was written.
-#[derive(Drop)]
+#[derive(Clone, Copy)]
 struct Part {
     listing: Listing,
     taken: usize,

@@ -4,7 +4,7 @@ ghost use Rattle.list_times.specs.Request.{is_same, names_none, choose, read_arg
 
 // What to do: list standard input, list the file that is named, tell how the program is used, tell its version, or say
 // that the arguments are none of these.
-#[derive(Drop)]
+#[derive(Clone, Copy)]
 pub(crate) enum Request {
     ListInput,
     ListFile,

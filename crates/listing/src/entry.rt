@@ -10,7 +10,7 @@ use listing_lines::Totals;
 use time_string::{KindAnswer, TimeAnswer};
 
 // What an event of the feed brings to the listing.
-#[derive(Drop)]
+#[derive(Clone, Copy)]
 pub(crate) enum Entry {
     Nothing,
     Read(ClockTime),
@@ -19,7 +19,7 @@ pub(crate) enum Entry {
 }
 
 // A line of text, its line feed included: the first `length` bytes of `text`.
-#[derive(Drop)]
+#[derive(Clone, Copy)]
 pub(crate) struct TextLine {
     pub(crate) text: [u8; 35],
     pub(crate) length: usize,

@@ -14,14 +14,14 @@ mod entry;
 use entry::TextLine;
 
 // The state between two bytes.
-#[derive(Drop)]
+#[derive(Clone, Copy)]
 pub struct Listing {
     pub framer: Framer,
     pub totals: Totals,
 }
 
 // The state after the bytes taken, and the length of their text.
-#[derive(Drop)]
+#[derive(Clone, Copy)]
 pub struct Listed {
     pub listing: Listing,
     pub taken: usize,
@@ -29,7 +29,7 @@ pub struct Listed {
 }
 
 // The state after the bytes taken, and their line.
-#[derive(Drop)]
+#[derive(Clone, Copy)]
 struct LineResult {
     listing: Listing,
     line: TextLine,

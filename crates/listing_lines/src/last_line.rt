@@ -7,14 +7,14 @@ ghost use Rattle.listing_lines.specs.LastLine.{SpellsNumeral, Extends, Shown};
 use crate::Totals;
 
 // A number in decimal: the bytes of `digits` from `start` on.
-#[derive(Drop)]
+#[derive(Clone, Copy)]
 struct Numeral {
     digits: [u8; 20],
     start: usize,
 }
 
 // A line of text: the first `length` bytes of `text`.
-#[derive(Drop)]
+#[derive(Clone, Copy)]
 pub(crate) struct TotalsLine {
     pub(crate) text: [u8; 86],
     pub(crate) length: usize,

@@ -13,14 +13,14 @@ mod offset;
 mod places;
 
 // What a GPS string says: a clock time and the clock's position.
-#[derive(Drop)]
+#[derive(Clone, Copy)]
 pub struct GpsTime {
     pub time: ClockTime,
     pub position: Position,
 }
 
 // What was read, or the error.
-#[derive(Drop)]
+#[derive(Clone, Copy)]
 pub enum GpsAnswer {
     Read(GpsTime),
     Refused(Error),

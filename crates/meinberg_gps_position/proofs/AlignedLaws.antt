@@ -4,7 +4,7 @@ use native.Mathlib.Decide.{dec_lt}
 use native.Mathlib.Omega.{arith}
 use mathlib.Core.Path.{◌≡◌, refl}
 use mathlib.Core.Logic.{◌⊎◌, inl, inr, ⊎_elim}
-use mathlib.Core.Bool.{Bool, true, false, ◌&&◌, ◌||◌, and_false, or-false, false≢true}
+use mathlib.Core.Bool.{Bool, true, false, ◌&&◌, ◌||◌, and-false, or-false, false≢true}
 use mathlib.Core.List.{List, [], ◌∷◌}
 use lib.Dec.{leb, eqb}
 use lib.ListN.{length, get_or, get_or-eq_default}
@@ -97,7 +97,7 @@ aligned_blank b s = or-false (right_aligned (b ∷ s))
 -- what ends in no digit is not right-aligned
 pub aligned_end : (a b c : ℕ) → right_aligned (a ∷ b ∷ c ∷ 0 ∷ []) ≡ false
 unfolding right_aligned are_digits is_digit
-aligned_end a b c = simp and_false
+aligned_end a b c = simp and-false
 
 -- k digits or blanks stand for a number below 10 ^ k
 pub value_small : (s : List ℕ) → digits_or_blanks s ≡ true → value s < 10 ^ length s

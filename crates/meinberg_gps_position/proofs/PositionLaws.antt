@@ -3,7 +3,7 @@ use Prim.Native.Nat.{ℕ, ◌≤◌, ◌<◌}
 use Prim.Native.Char.{code}
 use native.Mathlib.Omega.{arith}
 use mathlib.Core.Path.{◌≡◌, ◌∙◌}
-use mathlib.Core.Bool.{true, false, ◌&&◌, and_false}
+use mathlib.Core.Bool.{true, false, ◌&&◌, and-false}
 use mathlib.Core.List.{List}
 use lib.ListN.{length, get_or, get_or-eq_default}
 use borrow.Author.Tests.{le-leb, not-false}
@@ -71,7 +71,7 @@ module _ (s : List ℕ) where
       let end : get_or s 63 0 ≡ 0 = get_or-eq_default s 0 out in
       position_no_digits
       (rw (end, aligned_end (get_or s 60 0) (get_or s 61 0) (get_or s 62 0))
-      (and_false (angle_digits latitude s && angle_digits longitude s)))
+      (and-false (angle_digits latitude s && angle_digits longitude s)))
 
   -- what the code makes of the magnitudes and the height
   pub position_stands : position_digits s ≡ true → {lat lon height : ℕ} → lat ≡ angle_magnitude latitude s

@@ -15,7 +15,7 @@ mod digits;
 mod text;
 
 // The position that was read, or the error.
-#[derive(Drop)]
+#[derive(Clone, Copy)]
 pub enum PositionAnswer {
     Read(Position),
     Refused(Error),

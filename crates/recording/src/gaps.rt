@@ -3,7 +3,7 @@ ghost use Rattle.std.specs.Prelude.{◌≡◌, ◌+◌, ◌<◌, ◌≤◌, leng
 ghost use Rattle.recording.specs.Gaps.{gap_before, first_gap, gap_after, gap_of};
 
 // The place of a gap, if there is one.
-#[derive(Drop)]
+#[derive(Clone, Copy)]
 pub(crate) enum Gap {
     At(usize),
     Nothing,

@@ -15,21 +15,21 @@ mod update;
 const LONGEST: usize = 100000;
 
 // The number at a place, or the error.
-#[derive(Drop)]
+#[derive(Clone, Copy)]
 pub enum OutcomeAnswer {
     Number(u32),
     Refused(Error),
 }
 
 // Every place has its number, or the error.
-#[derive(Drop)]
+#[derive(Clone, Copy)]
 pub enum FillAnswer {
     Filled,
     Refused(Error),
 }
 
 // How many outcomes differ from those before, or the error.
-#[derive(Drop)]
+#[derive(Clone, Copy)]
 pub enum CorrectAnswer {
     Corrected(usize),
     Refused(Error),

@@ -4,7 +4,7 @@ use native.Mathlib.Nat.{zero-add}
 use native.Mathlib.Omega.{arith}
 use mathlib.Core.Path.{◌≡◌, refl, sym, ◌∙◌}
 use mathlib.Core.Logic.{◌↔◌, ◌⊎◌, inl, inr, ⊎_elim}
-use mathlib.Core.Bool.{Bool, true, false, cond, not, ◌&&◌, ◌||◌, and_false, or-true, true≢false}
+use mathlib.Core.Bool.{Bool, true, false, cond, not, ◌&&◌, ◌||◌, and-false, or-true, true≢false}
 use lib.Dec.{leb, eqb}
 use lib.IntN.{ℤ, pos, negsuc, neg_ℤ, nat_abs, ◌-ℤ◌, +ℤ_idl}
 use lib.Pow.{pow_pos}
@@ -107,7 +107,7 @@ kept (negsuc n) h = absurd (true≢false h)
 -- a number of 32 bits, widened: what the machine holds for it, and for zero less it
 module _ {z : ℤ} (f : SFits w32 z) where
   pub widened : to_z w64 (of_z w64 (to_z w32 (of_z w32 z))) ≡ z
-  widened = rw (to_z-of_z f) (to_z-of_z (sfits_widen tt f))
+  widened = rw (to_z-of_z f) (to_z-of_z (sfits_widen {w = w32} {w' = w64} tt f))
 
   pub magnitude_small : nat_abs z ≤ 2 ^ 31
   magnitude_small = nat_abs-le z f.sfits
@@ -144,6 +144,6 @@ module _ (above below : ℕ) (differ : eqb above below ≡ false) where
   pub sign_written : (limit : ℕ) (z : ℤ) → nat_abs z ≤ limit
       → sign_holds above below limit (sign_byte above below z) (nat_abs z) ≡ true
   unfolding sign_holds
-  sign_written limit (pos n) h = simp (eq-eqb above above refl, differ, le-leb n limit h, and_false)
+  sign_written limit (pos n) h = simp (eq-eqb above above refl, differ, le-leb n limit h, and-false)
   sign_written limit (negsuc n) h =
       simp (eq-eqb below below refl, or-true, le-leb (suc n) limit h, ne_eqb (suc n) 0 (λ e. omega arith))

@@ -11,7 +11,7 @@ use clock_time::{ClockTime, Error, ReadAnswer};
 use meinberg_gps::{GpsAnswer, GpsTime};
 
 // The kinds of time strings.
-#[derive(Drop)]
+#[derive(Clone, Copy)]
 pub enum Kind {
     Standard,
     Pzf,
@@ -20,14 +20,14 @@ pub enum Kind {
 }
 
 // The kind of a string, or the error.
-#[derive(Drop)]
+#[derive(Clone, Copy)]
 pub enum KindAnswer {
     Kind(Kind),
     Refused(Error),
 }
 
 // The clock time that was read, with a position if the string has one, or the error.
-#[derive(Drop)]
+#[derive(Clone, Copy)]
 pub enum TimeAnswer {
     Read(ClockTime),
     ReadWithPosition(GpsTime),

@@ -12,14 +12,14 @@ mod places;
 mod sum;
 
 // What a Trimble string says: a clock time, and the milliseconds beside it.
-#[derive(Drop)]
+#[derive(Clone, Copy)]
 pub struct TrimbleTime {
     pub time: ClockTime,
     pub milliseconds: u16,
 }
 
 // What was read, or the error.
-#[derive(Drop)]
+#[derive(Clone, Copy)]
 pub enum TrimbleAnswer {
     Read(TrimbleTime),
     Refused(Error),

@@ -7,7 +7,7 @@ ghost use Rattle.vectors.specs.DigitRun.{read_digits, digits_answer, write_digit
 use clock_time::{Error, WriteAnswer};
 
 // The number that a run of digits stands for; or the place of the first byte that is no digit; or more than 19 bytes.
-#[derive(Drop)]
+#[derive(Clone, Copy)]
 pub enum DigitsRead {
     Number(u64),
     NotDigit(usize),

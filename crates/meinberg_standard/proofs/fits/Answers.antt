@@ -1,0 +1,17 @@
+-- It is the layout's own test, eight places at once, and the string is long enough for each.
+use borrow.Author.Rules.{rules}
+use mathlib.Core.Bool.{true}
+use mathlib.Core.List.{[], ◌∷◌}
+use Rattle.clock_time.specs.Lists.{ascii}
+use Rattle.decimal.specs.Decimal.{is_digit}
+use Rattle.layout.specs.Layout.{sample_place, allowed, fits_from}
+use Rattle.layout_words.specs.Words.{enough, sample_fits}
+use Rattle.layout.proofs.PartLaws.{parts_fit_lem}
+use Rattle.meinberg_standard.specs.Standard.{standard_layout}
+use Rattle.meinberg_standard.proofs.fits.Goals as goal
+
+pub returns : goal.returns
+unfolding fits_from allowed is_digit ascii standard_layout enough sample_place sample_fits
+returns c =
+    rw (c.eight_fit-3.ensures, c.eight_fit-2.ensures, c.eight_fit.ensures, c.requires)
+    (parts_fit_lem (8 ∷ 8 ∷ 8 ∷ []) true 0 standard_layout c.args.s.now)

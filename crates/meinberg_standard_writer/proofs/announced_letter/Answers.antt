@@ -1,0 +1,9 @@
+use borrow.Author.Rules.{rules}
+use Rattle.meinberg_standard.specs.Standard.{announced_letter}
+use Rattle.meinberg_standard_writer.proofs.announced_letter.Goals as goal
+
+pub returns-then-change : goal.returns-then-change
+returns-then-change c = simp c.if-change.true
+
+pub returns : goal.returns
+returns c = simp (c.letter_if.ensures, c.if-change.false)

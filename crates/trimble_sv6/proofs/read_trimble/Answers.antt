@@ -1,0 +1,17 @@
+use Rattle.std.proofs.Common.{inl, inr, rules}
+use Rattle.clock_time.specs.Lists.{ascii}
+use Rattle.layout.proofs.TextLaws.{read_length, read_misfit, reading}
+use Rattle.trimble_sv6.specs.Trimble.{trimble_layout, trimble, read_trimble}
+use Rattle.trimble_sv6.proofs.read_trimble.Goals as goal
+
+pub read_fitting-requires : goal.read_fitting-requires
+unfolding trimble_layout ascii
+read_fitting-requires c = search reading
+
+-- a string of another length, or one that does not fit
+pub returns : goal.returns
+unfolding read_trimble trimble trimble_layout ascii
+returns c = elim c.if-s-eq37.branch [
+  | inl w ↦ read_misfit trimble _ c.first_error.ensures w.1.ensures w.2.left
+  | inr w ↦ read_length trimble _ c.first_error.ensures w.left
+]

@@ -1,5 +1,5 @@
 -- One DCF77 minute: the marks between two gaps, and the time that they announce.
-use Rattle.std.specs.Prelude.{ℕ, ◌+◌, ◌/◌, ◌%◌, Bool, false, cond, not, ◌&&◌, ◌||◌, List, [], ◌∷◌, ◌++◌, leb, eqb, length, get_or}
+use Rattle.std.specs.Prelude.{ℕ, ◌/◌, ◌%◌, Bool, false, cond, not, ◌&&◌, ◌||◌, List, [], ◌∷◌, ◌++◌, leb, eqb, length, get_or}
 use Rattle.std.specs.Bool.{beq}
 use Rattle.clock_time.specs.Zone.{cet_offset}
 use Rattle.clock_time.specs.Errors.{Answer, accepted, refused, error_number, Check, given, checked}

@@ -1,4 +1,3 @@
-use borrow.Author.Rules.{rules}
 use Rattle.dcf77.proofs.MarkLaws.{words_sure}
 use Rattle.dcf77.proofs.marks.all_sure.Goals as goal
 

@@ -1,4 +1,3 @@
-use borrow.Author.Rules.{rules}
 use native.Mathlib.Omega.{arith}
 use Rattle.dcf77.proofs.MarkLaws.{binary_split, binary_below, binary_rest}
 use Rattle.dcf77.proofs.marks.read_date.Goals as goal

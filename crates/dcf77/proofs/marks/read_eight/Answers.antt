@@ -1,4 +1,3 @@
-use borrow.Author.Rules.{rules}
 use native.Mathlib.Omega.{arith}
 use Rattle.dcf77.proofs.MarkLaws.{eight_marks}
 use Rattle.dcf77.proofs.marks.read_eight.Goals as goal

@@ -1,4 +1,3 @@
-use borrow.Author.Rules.{rules}
 use Rattle.dcf77.proofs.MarkLaws.{binary_first}
 use Rattle.dcf77.proofs.marks.read_hour.Goals as goal
 

@@ -1,19 +1,20 @@
-use borrow.Author.Rules.{rules}
 use Prim.Native.Nat.{◌<◌}
 use native.Mathlib.Omega.{arith}
 use Rattle.dcf77.specs.Minute.{minute_fields}
 use Rattle.dcf77.proofs.MarkLaws.{binary_split, binary_below, binary_first}
 use Rattle.dcf77.proofs.reading.fields.Goals as goal
 
-first_small : (c : goal.After-read-eight2) → c.read_eight.result < 256
-first_small c =
-    omega (arith, c.read_eight.ensures, binary_below _ c.requires.run.sure 8 1)
-
 pub overflow_add-first : goal.overflow_add-first
-overflow_add-first c = omega (arith, first_small c)
+overflow_add-first c =
+    let first_small : c.read_eight.result < 256 =
+    omega (arith, c.read_eight.ensures, binary_below _ c.requires.run.sure 8 1) in
+    omega (arith, first_small)
 
 pub overflow_cast-result : goal.overflow_cast-result
-overflow_cast-result c = omega (arith, first_small c)
+overflow_cast-result c =
+    let first_small : c.read_eight.result < 256 =
+    omega (arith, c.read_eight.ensures, binary_below _ c.requires.run.sure 8 1) in
+    omega (arith, first_small)
 
 pub returns : goal.returns
 unfolding minute_fields

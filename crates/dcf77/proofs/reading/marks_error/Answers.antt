@@ -1,4 +1,3 @@
-use borrow.Author.Rules.{rules}
 use borrow.Author.Tests.{eq-eqb, ne_eqb}
 use Rattle.dcf77.proofs.CheckLaws.{first}
 use Rattle.dcf77.proofs.reading.marks_error.Goals as goal

@@ -1,5 +1,4 @@
 -- Each check in turn is the first to fail, or passes.
-use borrow.Author.Rules.{rules}
 use mathlib.Core.Path.{ap}
 use mathlib.Core.Bool.{not}
 use Rattle.dcf77.proofs.CheckLaws.{first}

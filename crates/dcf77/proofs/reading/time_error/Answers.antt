@@ -1,4 +1,3 @@
-use borrow.Author.Rules.{rules}
 use Rattle.dcf77.proofs.CheckLaws.{first}
 use Rattle.dcf77.proofs.reading.time_error.Goals as goal
 

@@ -1,0 +1,12 @@
+-- The loop goes up, and the first gap from where it stands on is the one after the place.
+use Prim.Native.Nat.{◌-◌}
+use mathlib.Core.Path.{◌≡◌}
+use lib.ListN.{length, drop}
+use Rattle.recording.specs.Gaps.{first_gap, gap_after}
+use Rattle.recording.proofs.gaps.gap_after.Given as goal
+
+abbrev pub invariant-loop-i : goal.invariant-loop-i
+invariant-loop-i l = first_gap (drop l.i l.marks) l.i ≡ gap_after l.marks l.place
+
+abbrev pub decreases-loop-i : goal.decreases-loop-i
+decreases-loop-i l = length l.marks - l.i

@@ -1,0 +1,13 @@
+-- The places before where the loop stands have the rule's numbers, all others are as lent, and the gap that is kept is
+-- the nearest one before.
+use Prim.Native.Nat.{◌-◌}
+use lib.ListN.{length}
+use Rattle.recording.specs.Gaps.{gap_of}
+use Rattle.recording.proofs.FillLaws.{Filled}
+use Rattle.recording.proofs.numbers.fill.Given as goal
+
+abbrev pub invariant-loop-i : goal.invariant-loop-i
+invariant-loop-i l = Filled l.marks l.initial.outcomes l.outcomes (gap_of l.last) l.i
+
+abbrev pub decreases-loop-i : goal.decreases-loop-i
+decreases-loop-i l = length l.marks - l.i

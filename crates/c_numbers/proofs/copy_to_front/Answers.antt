@@ -15,7 +15,7 @@ pub loop-i-preserved : goal.loop-i-preserved
 loop-i-preserved c =
     let l = c.loop-i in
     let s = c.args.numbers.now in
-    rw (kept w32 {z = get_or s l.i (pos 0)} (c.type_inv.numbers l.i))
+    rw (kept w32 {z = get_or s l.i (pos 0)} (search rules))
     (copied_more s c.args.fields.now l.fields l.i (pos 0) c.requires (omega arith) l.invariant)
 
 pub returns : goal.returns

@@ -26,7 +26,7 @@ N ?= 2000000
 LIBRARY ?= target/staticlib/libradio_clock.a
 LIST_TIMES ?= target/bin/list_times
 C = target/c
-CRATES = kit-version crates.txt $(shell find crates -name '*.rt' -o -name '*.antt')
+CRATES = kit-version crates.txt $(shell find crates -name out -prune -o '(' -name '*.rt' -o -name '*.antt' ')' -print)
 WARN = -Wall -Wextra -Wpedantic -Wconversion -Wsign-conversion -Wshadow -Werror
 PLAIN = $(CC) -std=c99 -O2 $(WARN) -Iinclude -Itests/c
 CHECKED = $(CC) -std=c99 -O1 -g $(WARN) -fsanitize=address,undefined -fno-sanitize-recover=all -Iinclude -Itests/c
@@ -77,15 +77,17 @@ list: target/bin/list_times
 outside: c-test commands-test dist-test $(LIST_TIMES)
 	python3 tests/list_times.py $(LIST_TIMES) samples/capture.bin
 
-# rt proves the crates below, then the library or the program. The C API is two crates; their archives are joined.
+# rt proves the crates below, then builds the library or the program in its crate's folder. To build a program is to run
+# it too.
 library: $(LIBRARY)
 target/staticlib/libradio_clock.a: $(CRATES)
-	@tools/prove rt staticlib c_readings >&2
-	@tools/prove rt staticlib c_recordings >&2
-	@printf 'create %s\naddlib %s\naddlib %s\nsave\n' $@ $(@D)/libc_readings.a $(@D)/libc_recordings.a | $(AR) -M
+	@tools/prove -C crates/radio_clock rt lib >&2
+	@install -D -m 644 crates/radio_clock/out/libradio_clock.a $@
+	@echo "built: $@" >&2
 target/bin/list_times: $(CRATES)
-	@tools/prove rt check list_times >&2
-	@touch -c $@
+	@tools/prove -C crates/list_times rt run -- --version >&2
+	@install -D -m 755 crates/list_times/out/list_times $@
+	@echo "built: $@" >&2
 
 c-test: c-header c-header-lines c-stack c-selftest c-plain fuzz c-collector c-logger c-install
 

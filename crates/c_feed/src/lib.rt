@@ -45,7 +45,7 @@ fn load(state: &[u8]) -> Framer
     ensures { result ≡ framer_in state.now }
 {
     let mut bytes = [0u8; 66];
-    bytes::copy(&state[..66], &mut bytes);
+    bytes.copy_from_slice(&state[..66]);
     let count = state[66] as usize;
     let mode = mode_of(state[67]);
     Framer { bytes, count, mode }
@@ -56,7 +56,7 @@ fn store(framer: Framer, state: &mut [u8])
     ensures { state.new ≡ state_bytes framer ++ drop 68 state.old }
 {
     let bytes = framer.bytes;
-    bytes::copy(&bytes, state);
+    state[..66].copy_from_slice(&bytes);
     let mode = framer.mode;
     state[66] = framer.count as u8;
     state[67] = mode_number(mode);

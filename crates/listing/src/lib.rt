@@ -43,7 +43,7 @@ fn put_line(out: &mut [u8], at: usize, line: TextLine)
 {
     let text = line.text;
     let n = line.length;
-    bytes::copy(&text[..n], &mut out[at..]);
+    out[at..at + n].copy_from_slice(&text[..n]);
 }
 
 // Takes the bytes of s up to the first that ends a string.

@@ -43,7 +43,7 @@ fn put(out: &mut [u8], at: usize, s: &[u8])
     requires { at + length s.now ≤ length out.old }
     ensures { out.new ≡ paste out.old at s.now (length s.now) }
 {
-    bytes::copy(s, &mut out[at..]);
+    out[at..at + s.len()].copy_from_slice(s);
 }
 
 // Puts s into `out` from `at` on, and returns where it ends.

@@ -14,7 +14,7 @@ unfolding with_weekday
 returns-then-t-eq0 c =
     let timed : c.with_weekday-t.result ≡ with_weekday (sent_fields c.args.s.now) =
         c.with_weekday-t.ensures ∙ ap with_weekday c.sent_fields.ensures in
-    no_date _ (weekday_zero _ _ _ (rw timed at c.if-t-eq0.true))
+    no_date c.args.s.now (weekday_zero _ _ _ (rw timed at c.if-t-eq0.true))
 
 pub returns-then-not-time_exists : goal.returns-then-not-time_exists
 unfolding with_weekday sent_fields
@@ -23,7 +23,7 @@ returns-then-not-time_exists c =
         let timed : c.with_weekday-t.result ≡ with_weekday (sent_fields c.args.s.now) = c.with_weekday-t.ensures ∙ ap with_weekday c.sent_fields.ensures in rw timed at c.time_exists.ensures in
     let date_exists_lem : let t = sent_fields c.args.s.now in supported_date first_year last_year t.year t.month t.day ≡ true =
         let timed : c.with_weekday-t.result ≡ with_weekday (sent_fields c.args.s.now) = c.with_weekday-t.ensures ∙ ap with_weekday c.sent_fields.ensures in weekday_some _ _ _ (rw timed at c.if-t-eq0.false) in
-    no_time _ date_exists_lem (sym time_found ∙ c.if-not-time_exists.true)
+    no_time c.args.s.now date_exists_lem (sym time_found ∙ c.if-not-time_exists.true)
 
 pub returns : goal.returns
 unfolding trimble_fields with_weekday sent_fields
@@ -35,4 +35,4 @@ returns c =
     let timed : c.with_weekday-t.result ≡ with_weekday (sent_fields c.args.s.now) =
         c.with_weekday-t.ensures ∙ ap with_weekday c.sent_fields.ensures in
     rw (c.milliseconds.ensures, timed)
-    (dated _ date_exists_lem (sym time_found ∙ c.if-not-time_exists.false))
+    (dated c.args.s.now date_exists_lem (sym time_found ∙ c.if-not-time_exists.false))

@@ -1,8 +1,9 @@
-use Rattle.std.proofs.Common.{inl, inr, rules}
+use Rattle.std.proofs.Common.{rules}
 use Rattle.clock_time.specs.Lists.{ascii}
 use Rattle.layout.proofs.TextLaws.{read_length, read_misfit, reading}
 use Rattle.trimble_sv6.specs.Trimble.{trimble_layout, trimble, read_trimble}
 use Rattle.trimble_sv6.proofs.read_trimble.Goals as goal
+use Rattle.trimble_sv6.proofs.read_trimble.Goals.{then-s-eq37+else-fits, else-s-eq37}
 
 pub read_fitting-requires : goal.read_fitting-requires
 unfolding trimble_layout ascii
@@ -12,6 +13,6 @@ read_fitting-requires c = search reading
 pub returns : goal.returns
 unfolding read_trimble trimble trimble_layout ascii
 returns c = elim c.if-s-eq37.branch [
-  | inl w ↦ read_misfit trimble _ c.first_error.ensures w.1.ensures w.2.left
-  | inr w ↦ read_length trimble _ c.first_error.ensures w.left
+  | then-s-eq37+else-fits w ↦ read_misfit trimble _ c.first_error.ensures w.fits.ensures w.if-fits.false
+  | else-s-eq37 w ↦ read_length trimble _ c.first_error.ensures w.if-s-eq37.false
 ]

@@ -1,0 +1,6 @@
+use borrow.Author.Rules.{rules}
+use Rattle.meinberg_gps.proofs.GpsLaws.{writes}
+use Rattle.meinberg_gps_writer.proofs.write_gps.Goals as goal
+
+pub returns : goal.returns
+returns c = search writes

@@ -110,12 +110,7 @@ fn write_lines(rt: &HostRuntime, state: State, s: &[u8], out: &mut [u8; 65536]) 
 
 // Reads once from the input, and answers how many bytes came: none at the input's end, and if the read fails, which it
 // says by the input's name.
-fn read_some<I: Read>(
-    rt: &HostRuntime,
-    input: &mut I,
-    name: &[u8],
-    buf: &mut [u8; 65536],
-) -> usize
+fn read_some<I: Read>(rt: &HostRuntime, input: &mut I, name: &[u8], buf: &mut [u8; 65536]) -> usize
     ensures { IsPrefixLen result buf.new }
 {
     match input.read(buf) {

@@ -5,8 +5,7 @@ ghost use Rattle.c_feed.specs.Feed.{feed_memory, feed_into};
 
 // Takes bytes of `s` up to its end, to `limit` bytes, or to just after the first string, and leaves the state, how many
 // it took and what the last of them ended. Refuses with LentMemory (20) if the state has fewer than 68 bytes.
-#[unsafe(no_mangle)]
-pub extern "C" fn radio_clock_feed(
+pub fn radio_clock_feed(
     state: &mut [u8],
     s: &[u8],
     limit: usize,

@@ -21,8 +21,7 @@ fn put_instant(answer: UnixTime, time: &mut i64) -> u8
 
 // Leaves the Unix time of the first 14 numbers behind `time`. Refuses with Unrepresentable (23) if they are no valid
 // reading.
-#[unsafe(no_mangle)]
-pub extern "C" fn radio_clock_unix_time(fields: &[i32], time: &mut i64) -> u8
+pub fn radio_clock_unix_time(fields: &[i32], time: &mut i64) -> u8
     ensures { called result time.new ≡ called_answer time.old (unix_time_of fields.now) }
 {
     match c_fields::first_time_of(fields) {

@@ -6,8 +6,7 @@ ghost use Rattle.c_readings.specs.Minutes.{read_minute_into};
 
 // Reads a run of marks into the first 16 of the numbers lent. Refuses as the minute's reader does, then with LentMemory
 // (20) if there is no room.
-#[unsafe(no_mangle)]
-pub extern "C" fn radio_clock_read_minute(marks: &[u8], fields: &mut [i32]) -> u8
+pub fn radio_clock_read_minute(marks: &[u8], fields: &mut [i32]) -> u8
     ensures { called result fields.new ≡ called_memory (read_minute_into marks.now fields.old) }
 {
     c_numbers::put_minute(dcf77::read_minute(marks), fields)
@@ -15,12 +14,7 @@ pub extern "C" fn radio_clock_read_minute(marks: &[u8], fields: &mut [i32]) -> u
 
 // Writes numbers as a run of marks to the front of `out`, with their count behind `written`. Refuses with
 // Unrepresentable (23) if no run is read as the numbers, then with LentMemory (20) if there is no room.
-#[unsafe(no_mangle)]
-pub extern "C" fn radio_clock_write_minute(
-    fields: &[i32],
-    out: &mut [u8],
-    written: &mut usize,
-) -> u8
+pub fn radio_clock_write_minute(fields: &[i32], out: &mut [u8], written: &mut usize) -> u8
     ensures { called result (out.new, written.new)
         ≡ called_both written.old (write_minute_from fields.now out.old) }
 {

@@ -19,8 +19,7 @@ fn kind_number(k: Kind) -> u8
 }
 
 // Leaves the number of the string's kind behind `kind`. Refuses with Length (1) if no kind has that length.
-#[unsafe(no_mangle)]
-pub extern "C" fn radio_clock_kind(s: &[u8], kind: &mut u8) -> u8
+pub fn radio_clock_kind(s: &[u8], kind: &mut u8) -> u8
     ensures { called result kind.new ≡ called_answer kind.old (kind_number_of s.now) }
 {
     match time_string::kind_of(s) {
@@ -34,8 +33,7 @@ pub extern "C" fn radio_clock_kind(s: &[u8], kind: &mut u8) -> u8
 
 // Reads a string of the kind that a number names into the first of the numbers lent. Refuses with Length (1) if it
 // names none, as the kind's reader does, then with LentMemory (20) if there is no room.
-#[unsafe(no_mangle)]
-pub extern "C" fn radio_clock_read(kind: u8, s: &[u8], fields: &mut [i32]) -> u8
+pub fn radio_clock_read(kind: u8, s: &[u8], fields: &mut [i32]) -> u8
     ensures { called result fields.new ≡ called_memory (read_into kind s.now fields.old) }
 {
     if kind == 0 {
@@ -56,13 +54,7 @@ pub extern "C" fn radio_clock_read(kind: u8, s: &[u8], fields: &mut [i32]) -> u8
 // Writes numbers as a string of the kind that a number names to the front of `out`, with its length behind `written`.
 // Refuses with Length (1) if it names none, with Unrepresentable (23) if no such string is read as the numbers, then
 // with LentMemory (20) if there is no room.
-#[unsafe(no_mangle)]
-pub extern "C" fn radio_clock_write(
-    kind: u8,
-    fields: &[i32],
-    out: &mut [u8],
-    written: &mut usize,
-) -> u8
+pub fn radio_clock_write(kind: u8, fields: &[i32], out: &mut [u8], written: &mut usize) -> u8
     ensures { called result (out.new, written.new)
         ≡ called_both written.old (write_from kind fields.now out.old) }
 {

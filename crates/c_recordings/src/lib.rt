@@ -12,8 +12,7 @@ use recording::{CorrectAnswer, FillAnswer, OutcomeAnswer};
 
 // Leaves the number that the rule gives a place behind `number`. Refuses with LentMemory (20) if there are more than
 // 100,000 marks, then with Place (21) if there is no such place.
-#[unsafe(no_mangle)]
-pub extern "C" fn radio_clock_outcome_at(marks: &[u8], place: usize, number: &mut u32) -> u8
+pub fn radio_clock_outcome_at(marks: &[u8], place: usize, number: &mut u32) -> u8
     ensures { called result number.new ≡ called_answer number.old (outcome_at marks.now place) }
 {
     match recording::outcome_at(marks, place) {
@@ -27,8 +26,7 @@ pub extern "C" fn radio_clock_outcome_at(marks: &[u8], place: usize, number: &mu
 
 // Leaves the Unix time that the outcome of an accepted minute announces behind `time`. Refuses with Unrepresentable
 // (23) if no accepted minute has the outcome.
-#[unsafe(no_mangle)]
-pub extern "C" fn radio_clock_outcome_unix_time(outcome: u32, time: &mut i64) -> u8
+pub fn radio_clock_outcome_unix_time(outcome: u32, time: &mut i64) -> u8
     ensures { called result time.new ≡ called_answer time.old (outcome_unix_time outcome) }
 {
     match dcf77_outcome::outcome_unix_time(outcome) {
@@ -42,8 +40,7 @@ pub extern "C" fn radio_clock_outcome_unix_time(outcome: u32, time: &mut i64) ->
 
 // Puts the number of every place into the outcomes. Refuses with LentMemory (20) if there are not as many outcomes
 // as marks, or more than 100,000 marks.
-#[unsafe(no_mangle)]
-pub extern "C" fn radio_clock_fill_outcomes(marks: &[u8], outcomes: &mut [u32]) -> u8
+pub fn radio_clock_fill_outcomes(marks: &[u8], outcomes: &mut [u32]) -> u8
     ensures { called result outcomes.new ≡ called_memory (fill_outcomes marks.now outcomes.old) }
 {
     match recording::fill_outcomes(marks, outcomes) {
@@ -55,8 +52,7 @@ pub extern "C" fn radio_clock_fill_outcomes(marks: &[u8], outcomes: &mut [u32]) 
 // Puts a new mark at a place, brings the outcomes up to date, and leaves the count of those that differ behind
 // `changed`. Refuses with LentMemory (20) if there are not as many outcomes as marks, or more than 100,000 marks, with
 // Place (21) if there is no such place, then with NewMark (22) if the mark is above 3.
-#[unsafe(no_mangle)]
-pub extern "C" fn radio_clock_correct_mark(
+pub fn radio_clock_correct_mark(
     marks: &mut [u8],
     outcomes: &mut [u32],
     place: usize,

@@ -1,0 +1,13 @@
+use borrow.Author.Rules.{rules}
+use Rattle.demands.proofs.calls_of_recordings.radio_clock_outcome_unix_time.Statement.{statement}
+use Rattle.demands.proofs.calls_of_recordings.radio_clock_outcome_unix_time.Tie as tie
+use Rattle.demands.proofs.Demand1 as demand-1
+use Rattle.demands.proofs.Demand2 as demand-2
+
+returns : tie.Need-returns
+returns c =
+    let e = c.radio-clock-outcome-unix-time.ensures in
+    (rw e (demand-1.c_outcome_unix_time _ _), rw e (demand-2.c_outcome_unix_time _ _))
+
+pub radio-clock-outcome-unix-time-spec : {M : Type 1} → statement M
+radio-clock-outcome-unix-time-spec = tie.close (tie.spec (λ c κs. search rules) returns)

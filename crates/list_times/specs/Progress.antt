@@ -5,6 +5,10 @@ use Rattle.listing.specs.declared.Listing.{Listing}
 use Rattle.list_times.specs.declared.Part.{Part}
 use Rattle.list_times.specs.declared.State.{State}
 
+-- a buffer has n bytes, of which n are the first n
+abbrev pub IsPrefixLen : ℕ → List ℕ → Type 0
+IsPrefixLen n buffer = (n ≤ length buffer) × (n ≡ length (take n buffer))
+
 -- the first n bytes of a buffer are a text
 abbrev pub StartsWith : List ℕ → ℕ → List ℕ → Type 0
 StartsWith buffer n text = (n ≤ length buffer) × (take n buffer ≡ text)

@@ -7,15 +7,23 @@ mod request;
 
 ghost use Rattle.std.specs.Prelude.{◌≡◌, ◌≤◌, length};
 ghost use Rattle.clock_time.specs.Lists.{ascii};
-ghost use Rattle.io.specs.Counts.{IsPrefixLen};
 ghost use Rattle.listing_lines.specs.Totals.{totals_line};
 ghost use Rattle.listing.specs.Listing.{text_of};
-ghost use Rattle.list_times.specs.Progress.{StartsWith, Takes, ListsAll, Reaches};
+ghost use Rattle.list_times.specs.Progress.{IsPrefixLen, StartsWith, Takes, ListsAll, Reaches};
 
 use clock_time::WriteAnswer;
-use libc::STDIN_FILENO;
 use listing::Listing;
 use request::Request;
+use std::env::FillError;
+use std::fs::File;
+use std::io::{Error, Read};
+use std::rt::Env;
+use std::{io, str};
+
+// The system's numbers of two errors: a name that is too long, and bytes that are no text.
+const ENAMETOOLONG: i32 = 36;
+
+const EILSEQ: i32 = 84;
 
 // The state between two reads; `is_open` until a write fails.
 #[derive(Clone, Copy)]
@@ -33,41 +41,41 @@ struct Part {
 }
 
 // Writes the first n bytes of out.
-fn write_start(out: &[u8], n: usize) -> bool
+fn write_start(rt: &HostRuntime, out: &[u8], n: usize) -> bool
     requires { n ≤ length out.now }
 {
-    output::write(&out[..n])
+    output::write(rt, &out[..n])
 }
 
 // Writes the heading.
-fn write_heading(text: &[u8]) -> bool
+fn write_heading(rt: &HostRuntime, text: &[u8]) -> bool
     requires { text.now ≡ ascii "time zone flags\n" }
 {
-    output::write(text)
+    output::write(rt, text)
 }
 
 // Writes the first n bytes of out, which are the text of the bytes s after `listing`. Of these two only the `requires`
 // speaks.
-fn write_text(listing: Listing, s: &[u8], out: &[u8], n: usize) -> bool
+fn write_text(rt: &HostRuntime, listing: Listing, s: &[u8], out: &[u8], n: usize) -> bool
     requires { StartsWith out.now n (text_of listing s.now) }
 {
-    write_start(out, n)
+    write_start(rt, out, n)
 }
 
 // Writes the first n bytes of out, which are the line of the totals of `end`. Of `end` only the `requires` speaks.
-fn write_last(end: Listing, out: &[u8], n: usize) -> bool
+fn write_last(rt: &HostRuntime, end: Listing, out: &[u8], n: usize) -> bool
     requires { StartsWith out.now n (totals_line end.totals) }
 {
-    write_start(out, n)
+    write_start(rt, out, n)
 }
 
 // Takes bytes of s, as many as `out` has room for, and writes their text.
-fn write_part(listing: Listing, s: &[u8], out: &mut [u8; 65536]) -> Part
+fn write_part(rt: &HostRuntime, listing: Listing, s: &[u8], out: &mut [u8; 65536]) -> Part
     ensures { Takes listing s.now result }
 {
     let listed = listing.list(s, out);
     let taken = listed.taken;
-    let is_written = write_text(listing, &s[..taken], out, listed.length);
+    let is_written = write_text(rt, listing, &s[..taken], out, listed.length);
     let next = listed.listing;
     Part {
         listing: next,
@@ -77,13 +85,13 @@ fn write_part(listing: Listing, s: &[u8], out: &mut [u8; 65536]) -> Part
 }
 
 // Writes the lines of the bytes s, as long as writing does not fail.
-fn write_lines(state: State, s: &[u8], out: &mut [u8; 65536]) -> State
+fn write_lines(rt: &HostRuntime, state: State, s: &[u8], out: &mut [u8; 65536]) -> State
     ensures { ListsAll state.listing s.now result }
 {
     let mut listing = state.listing;
     let mut i = 0;
     while i < s.len() {
-        let part = write_part(listing, &s[i..], out);
+        let part = write_part(rt, listing, &s[i..], out);
         let next = part.listing;
         listing = next;
         if !part.is_written {
@@ -100,90 +108,117 @@ fn write_lines(state: State, s: &[u8], out: &mut [u8; 65536]) -> State
     }
 }
 
-// Reads once from fd, and answers how many bytes came: none at the input's end, and if the read fails, which it says by
-// the input's name.
-fn read_some(fd: i32, name: &[u8], buf: &mut [u8; 65536]) -> usize
+// Reads once from the input, and answers how many bytes came: none at the input's end, and if the read fails, which it
+// says by the input's name.
+fn read_some<I: Read>(rt: &HostRuntime, input: &mut I, name: &[u8], buf: &mut [u8; 65536]) -> usize
     ensures { IsPrefixLen result buf.new }
 {
-    let got = libc::read(fd, buf);
-    if got < 0 {
-        output::fail(name);
+    match input.read(buf) {
+        Ok(n) => n,
+        Err(error) => {
+            output::fail(rt, name, &error);
+            0
+        }
     }
-    io::count(got, buf)
 }
 
-// Reads from fd to the input's end and writes the lines of what comes, as long as writing does not fail. A proved loop
-// has to end, and nothing says that the input does. So the loop counts its turns down, from a number that no run uses
-// up.
-fn list_input(fd: i32, name: &[u8], start: State) -> State
+// Reads the input to its end and writes the lines of what comes, as long as writing does not fail. A proved loop has to
+// end, and nothing says that the input does. So the loop has a number of turns that no run uses up.
+fn list_input<I: Read>(rt: &HostRuntime, input: &mut I, name: &[u8], start: State) -> State
     ensures { Reaches start.listing result.listing }
 {
-    let mut buf = io::large_buffer();
-    let mut out = io::large_buffer();
+    let mut buf = [0u8; 65536];
+    let mut out = [0u8; 65536];
     let mut state = start;
-    let mut turns = u64::MAX;
-    while turns > 0 && state.is_open {
-        let n = read_some(fd, name, &mut buf);
+    for _ in 0..u64::MAX {
+        if !state.is_open {
+            return state;
+        }
+        let n = read_some(rt, input, name, &mut buf);
         if n == 0 {
             return state;
         }
-        state = write_lines(state, &buf[..n], &mut out);
-        turns -= 1;
+        state = write_lines(rt, state, &buf[..n], &mut out);
     }
     state
 }
 
 // Writes the line of the totals of `end`.
-fn write_totals(end: Listing) -> bool {
+fn write_totals(rt: &HostRuntime, end: Listing) -> bool {
     let totals = end.totals;
     let mut text = [0u8; 86];
     match listing_lines::write_totals(totals, &mut text) {
-        WriteAnswer::Written(n) => write_last(end, &text, n),
+        WriteAnswer::Written(n) => write_last(rt, end, &text, n),
         WriteAnswer::Refused(_) => false,
     }
 }
 
-// Lists what comes from fd.
-fn list(fd: i32, name: &[u8]) {
-    let is_open = write_heading(b"time zone flags\n");
+// Lists what comes from the input.
+fn list<I: Read>(rt: &HostRuntime, input: &mut I, name: &[u8]) {
+    let is_open = write_heading(rt, b"time zone flags\n");
     let listing = Listing::new();
-    let end = list_input(fd, name, State { listing, is_open });
+    let end = list_input(rt, input, name, State { listing, is_open });
     if end.is_open {
         let listing = end.listing;
-        write_totals(listing);
+        write_totals(rt, listing);
     }
 }
 
 // Lists standard input.
-fn list_standard_input() {
-    output::tell_terminal(STDIN_FILENO, b"standard input", b"/dev/ttyS0");
-    list(STDIN_FILENO, b"standard input");
+fn list_standard_input(rt: &HostRuntime) {
+    let mut input = rt.stdin();
+    output::tell_terminal(rt, &input, b"standard input", b"/dev/ttyS0");
+    list(rt, &mut input, b"standard input");
+}
+
+// Opens the file at path. The library takes text alone for a path, so one that is not UTF-8 is refused.
+fn open(rt: &HostRuntime, path: &[u8]) -> io::Result<File> {
+    match str::from_utf8(path) {
+        Ok(path) => File::open(rt, path),
+        Err(_) => Err(Error::from_raw_os_error(EILSEQ)),
+    }
 }
 
 // Lists the file at path, or says why it can't be opened.
-fn list_file(path: &[u8]) {
-    let fd = os::open_read(path);
-    if fd < 0 {
-        output::fail(path);
-        return;
+fn list_file(rt: &HostRuntime, path: &[u8]) {
+    match open(rt, path) {
+        Ok(mut file) => {
+            output::tell_terminal(rt, &file, path, path);
+            list(rt, &mut file, path);
+        }
+        Err(error) => output::fail(rt, path, &error),
     }
-    output::tell_terminal(fd, path, path);
-    list(fd, path);
-    libc::close(fd);
 }
 
-fn main() {
-    let mut first = io::buffer();
-    let n = os::arg(1, &mut first);
-    if os::errno() == libc::ENAMETOOLONG {
-        os::fail(b"list_times");
-        return;
+// How many arguments there are, the program's name among them.
+fn count_arguments(rt: &HostRuntime) -> usize {
+    let mut space = [0u8; 1];
+    for i in 0..usize::MAX {
+        if let Err(FillError::NotPresent) = rt.arg(i, &mut space) {
+            return i;
+        }
     }
-    match request::read_request(os::arg_count(), &first[..n]) {
-        Request::ListInput => list_standard_input(),
-        Request::ListFile => list_file(&first[..n]),
-        Request::Help => output::tell_help(),
-        Request::Version => output::tell_version(),
-        Request::Misused => output::tell_usage(),
+    usize::MAX
+}
+
+// Does what the arguments ask for, of which the first after the program's name is `first`, or empty if there is none.
+fn serve(rt: &HostRuntime, first: &[u8]) {
+    match request::read_request(count_arguments(rt), first) {
+        Request::ListInput => list_standard_input(rt),
+        Request::ListFile => list_file(rt, first),
+        Request::Help => output::tell_help(rt),
+        Request::Version => output::tell_version(rt),
+        Request::Misused => output::tell_usage(rt),
+    }
+}
+
+fn main(rt: HostRuntime) {
+    let mut first = [0u8; 4096];
+    match rt.arg(1, &mut first) {
+        Ok(n) => serve(&rt, &first[..n]),
+        Err(FillError::NotPresent) => serve(&rt, b""),
+        Err(FillError::TooLong) => {
+            output::tell_error(&rt, b"list_times", &Error::from_raw_os_error(ENAMETOOLONG));
+        }
     }
 }

@@ -1,29 +1,56 @@
 // What the program writes to standard output and to standard error, if it is not a line of the listing.
-use libc::{STDERR_FILENO, STDOUT_FILENO};
+use std::io::{Error, IsTerminal, Write};
+use std::str;
 
-// Says on standard error what failed, as the caller names it, with errno's text.
-pub(crate) fn fail(what: &[u8]) {
-    io::write_all(STDERR_FILENO, b"list_times: ");
-    os::fail(what);
+// Writes text to standard error, as far as that can be written.
+fn tell(rt: &HostRuntime, text: &[u8]) {
+    let _ = rt.stderr().write_all(text);
+}
+
+// Says on standard error what failed, as the caller names it, and why: the system's text for the error. The library
+// writes its number after it, ` (os error 2)`, which is left out.
+pub(crate) fn tell_error(rt: &HostRuntime, what: &[u8], error: &Error) {
+    let mut space = [0u8; 256];
+    let mut rest = &mut space[..];
+    let _ = write!(rest, "{error}");
+    let n = 256usize.saturating_sub(rest.len());
+    let text = str::from_utf8(&space[..n]).unwrap_or("");
+    let why = match text.split_once(" (os error ") {
+        Some((why, _)) => why,
+        None => text,
+    };
+    tell(rt, what);
+    tell(rt, b": ");
+    tell(rt, why.as_bytes());
+    tell(rt, b"\n");
+}
+
+// Says on standard error what failed, as the caller names it, with the error's text.
+pub(crate) fn fail(rt: &HostRuntime, what: &[u8], error: &Error) {
+    tell(rt, b"list_times: ");
+    tell_error(rt, what, error);
 }
 
 // Writes text; says so and answers false if that fails.
-pub(crate) fn write(text: &[u8]) -> bool {
-    let is_written = io::write_all(STDOUT_FILENO, text);
-    if !is_written {
-        fail(b"standard output");
+pub(crate) fn write(rt: &HostRuntime, text: &[u8]) -> bool {
+    match rt.stdout().write_all(text) {
+        Ok(()) => true,
+        Err(error) => {
+            fail(rt, b"standard output", &error);
+            false
+        }
     }
-    is_written
 }
 
 // Tells the version, which include/radio_clock.h has too.
-pub(crate) fn tell_version() {
-    write(b"list_times 0.2.1\n");
+pub(crate) fn tell_version(rt: &HostRuntime) {
+    write(rt, b"list_times 0.2.1\n");
 }
 
 // Tells how the program is used.
-pub(crate) fn tell_help() {
+pub(crate) fn tell_help(rt: &HostRuntime) {
     write(
+        rt,
         b"usage: list_times [FILE]\n\
           \x20      list_times --help | --version\n\
           \n\
@@ -48,24 +75,21 @@ pub(crate) fn tell_help() {
 }
 
 // Tells on standard error how the program is used, in a line.
-pub(crate) fn tell_usage() {
-    io::write_all(
-        STDERR_FILENO,
-        b"usage: list_times [FILE | - | --help | --version]\n",
-    );
+pub(crate) fn tell_usage(rt: &HostRuntime) {
+    tell(rt, b"usage: list_times [FILE | - | --help | --version]\n");
 }
 
-// If fd is a terminal, says on standard error that it must be raw: `name` says which it is, `line` is its file. Whether
-// it is raw can't be asked, so this is said of every terminal.
-pub(crate) fn tell_terminal(fd: i32, name: &[u8], line: &[u8]) {
-    if libc::isatty(fd) != 0 {
-        io::write_all(STDERR_FILENO, b"list_times: ");
-        io::write_all(STDERR_FILENO, name);
-        io::write_all(
-            STDERR_FILENO,
+// If the input is a terminal, says on standard error that it must be raw: `name` says which it is, `line` is its file.
+// Whether it is raw can't be asked, so this is said of every terminal.
+pub(crate) fn tell_terminal<I: IsTerminal>(rt: &HostRuntime, input: &I, name: &[u8], line: &[u8]) {
+    if input.is_terminal() {
+        tell(rt, b"list_times: ");
+        tell(rt, name);
+        tell(
+            rt,
             b" is a terminal: it must be raw, or its strings are lost (stty -F ",
         );
-        io::write_all(STDERR_FILENO, line);
-        io::write_all(STDERR_FILENO, b" 9600 raw -echo)\n");
+        tell(rt, line);
+        tell(rt, b" 9600 raw -echo)\n");
     }
 }

@@ -3,6 +3,8 @@
 // lines are only copied.
 #![tactic(auto)]
 
+ghost use Rattle.std.specs.Prelude.{◌≤◌, length};
+
 mod commands;
 mod dates;
 mod day;
@@ -15,7 +17,7 @@ mod strings;
 mod text;
 
 use crate::numbers::Numbers;
-use libc::STDIN_FILENO;
+use std::io::Read;
 
 type Table = [u8; 1048576];
 
@@ -38,28 +40,28 @@ fn answer(word: u64, v: &Numbers, s: &[u8], a: &mut Numbers) {
 }
 
 // Puts the answer to a command with this text.
-fn put_command(word: u64, v: &Numbers, s: &[u8]) {
+fn put_command(rt: &impl Print, word: u64, v: &Numbers, s: &[u8]) {
     let mut space = [0u8; 256];
     let length = text::decode(s, commands::base_of(word, v), &mut space);
     let mut a = [0u64; 24];
     answer(word, v, text::start(&space, length), &mut a);
-    output::put_numbers(&a);
+    output::put_numbers(rt, &a);
 }
 
 // Puts the answer to a command that writes, and the buffer that it was lent, with as much room as the last number says.
-fn put_written(word: u64, v: &Numbers) {
+fn put_written(rt: &impl Print, word: u64, v: &Numbers) {
     let mut space = [b'.'; 256];
     let count = if word == commands::NUMBER {
         digits::write(v, &mut space)
     } else {
         strings::write(v, &mut space)
     };
-    output::put_number(count);
-    output::put_text(&space, numbers::last(v), commands::base_of(word, v));
+    output::put_number(rt, count);
+    output::put_text(rt, &space, numbers::last(v), commands::base_of(word, v));
 }
 
 // Puts the answer to a line, a question mark if it is no command; `write` takes any numbers.
-fn put_answer(line: &[u8]) {
+fn put_answer(rt: &impl Print, line: &[u8]) {
     let colon = text::place_of(line, 0, b':');
     let head = text::first(line, colon);
     let blank = text::place_of(head, 0, b' ');
@@ -68,45 +70,60 @@ fn put_answer(line: &[u8]) {
     numbers::read_all(head, blank, &mut v);
     let known = numbers::are_of(&v, commands::types_of(word));
     if (word == commands::WRITE) | (known & (word == commands::NUMBER)) {
-        put_written(word, &v);
+        put_written(rt, word, &v);
     } else if known {
-        put_command(word, &v, text::after(line, colon));
+        put_command(rt, word, &v, text::after(line, colon));
     } else {
-        output::put(b" ?");
+        output::put(rt, b" ?");
     }
 }
 
-fn put_line(line: &[u8]) {
-    output::put(line);
+fn put_line(rt: &impl Print, line: &[u8]) {
+    output::put(rt, line);
     let b = text::byte_at(line, 0);
     if (b != 0) & (b != b'#') {
-        output::put(b" =");
-        put_answer(line);
+        output::put(rt, b" =");
+        put_answer(rt, line);
     }
-    output::put(b"\n");
+    output::put(rt, b"\n");
 }
 
-fn answer_lines(s: &[u8]) {
+fn answer_lines(rt: &impl Print, s: &[u8]) {
     let mut at = 0;
     while at < s.len() {
         let end = text::place_of(s, at, b'\n');
-        put_line(&s[at..end]);
+        put_line(rt, &s[at..end]);
         at = end + 1;
     }
 }
 
+// Reads until the space is full, the input ends or a read fails, and returns how many bytes came.
+fn read_full<I: Read>(input: &mut I, space: &mut [u8]) -> usize
+    ensures { result ≤ length space.new }
+{
+    let mut done = 0;
+    while done < space.len() {
+        let n = input.read(&mut space[done..]).unwrap_or(0);
+        if n == 0 {
+            return done;
+        }
+        done += n;
+    }
+    done
+}
+
 // Answers standard input, which is read whole, as far as there is space.
-fn answer_input(space: &mut [u8]) {
-    let n = io::read_full(STDIN_FILENO, space);
-    answer_lines(&space[..n]);
+fn answer_input(rt: &(impl Input + Print), space: &mut [u8]) {
+    let n = read_full(&mut rt.reader(), space);
+    answer_lines(rt, &space[..n]);
 }
 
 // Lends the array as a slice. Behind a reference its length needs no proof; that of a local array so long finds none.
-fn answer_in(table: &mut Table) {
-    answer_input(table);
+fn answer_in(rt: &(impl Input + Print), table: &mut Table) {
+    answer_input(rt, table);
 }
 
-fn main() {
+fn main(rt: HostRuntime) {
     let mut table = [0u8; 1048576];
-    answer_in(&mut table);
+    answer_in(&rt, &mut table);
 }

@@ -48,7 +48,7 @@ fn are_written_as(kind: u8, fields: &[i32], s: &[u8]) -> bool {
     let mut space = [0u8; 66];
     let mut count = 0;
     let refusal = write_kind(kind, fields, &mut space, &mut count);
-    (refusal == 0) & check::same(text::first(&space, count), s)
+    (refusal == 0) & (text::first(&space, count) == s)
 }
 
 // Adds the numbers that s is read as, and whether they are written back as s.

@@ -1,0 +1,10 @@
+use borrow.Author.Rules.{rules}
+use Rattle.demands.proofs.Demand1 as demand-1
+use Rattle.demands.proofs.leaves.write_totals.Goals as goal
+
+pub returns : goal.returns
+returns c =
+    let e = c.write_totals.ensures in record {
+      demand_1 = rw e (demand-1.write_totals_lem _ _);
+      answer = e;
+    }

@@ -1,0 +1,11 @@
+use borrow.Author.Rules.{rules}
+use Rattle.demands.proofs.Demand1 as demand-1
+use Rattle.demands.proofs.Demand2 as demand-2
+use Rattle.demands.proofs.minutes.read_minute.Goals as goal
+
+pub returns : goal.returns
+returns c =
+    let e = c.read_minute.ensures in record {
+      demand_1 = rw e (demand-1.read_minute_lem _);
+      demand_2 = rw e (demand-2.read_minute_lem _);
+    }

@@ -1,0 +1,11 @@
+use borrow.Author.Rules.{rules}
+use Rattle.demands.proofs.Demand1 as demand-1
+use Rattle.demands.proofs.Demand2 as demand-2
+use Rattle.demands.proofs.trimble.read_trimble.Goals as goal
+
+pub returns : goal.returns
+returns c =
+    let e = c.read_trimble.ensures in record {
+      demand_1 = rw e (demand-1.read_trimble_lem _);
+      demand_2 = rw e (demand-2.read_trimble_lem _);
+    }

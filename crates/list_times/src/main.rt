@@ -15,9 +15,9 @@ use clock_time::WriteAnswer;
 use listing::Listing;
 use request::Request;
 use std::env::FillError;
-use std::fs::File;
+use std::fs::{File, OpenOptions};
 use std::io::{Error, Read};
-use std::rt::Env;
+use std::rt::{Env, Files};
 use std::{io, str};
 
 // The system's numbers of two errors: a name that is too long, and bytes that are no text.
@@ -174,7 +174,7 @@ fn list_standard_input(rt: &HostRuntime) {
 // Opens the file at path. The library takes text alone for a path, so one that is not UTF-8 is refused.
 fn open(rt: &HostRuntime, path: &[u8]) -> io::Result<File> {
     match str::from_utf8(path) {
-        Ok(path) => File::open(rt, path),
+        Ok(path) => rt.open_file(OpenOptions::new().read(true), path),
         Err(_) => Err(Error::from_raw_os_error(EILSEQ)),
     }
 }

@@ -112,18 +112,18 @@ fn read_full<I: Read>(input: &mut I, space: &mut [u8]) -> usize
     done
 }
 
-// Answers standard input, which is read whole, as far as there is space.
-fn answer_input(rt: &(impl Input + Print), space: &mut [u8]) {
-    let n = read_full(&mut rt.reader(), space);
+// Answers the input, which is read whole, as far as there is space.
+fn answer_input<I: Read>(rt: &impl Print, input: &mut I, space: &mut [u8]) {
+    let n = read_full(input, space);
     answer_lines(rt, &space[..n]);
 }
 
 // Lends the array as a slice. Behind a reference its length needs no proof; that of a local array so long finds none.
-fn answer_in(rt: &(impl Input + Print), table: &mut Table) {
-    answer_input(rt, table);
+fn answer_in<I: Read>(rt: &impl Print, input: &mut I, table: &mut Table) {
+    answer_input(rt, input, table);
 }
 
 fn main(rt: HostRuntime) {
     let mut table = [0u8; 1048576];
-    answer_in(&rt, &mut table);
+    answer_in(&rt, &mut rt.stdin(), &mut table);
 }

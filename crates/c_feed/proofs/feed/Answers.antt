@@ -14,13 +14,13 @@ returns-then-state-lt68 c = simp (lt-ltb (length c.args.state.now) 68 (omega ari
 pub store-requires : goal.store-requires
 store-requires c =
     let small : (c.feed-fed.result.framer.count ≤ 255) × (event_number c.feed-fed.result.event ≤ 255) =
-        let state = c.args.state.now in fed_small c.feed-fed.result _ _ (rw c.load-framer.ensures (state_small state (search rules))) c.feed-fed.ensures in
+    let state = c.args.state.now in fed_small c.feed-fed.result _ _ (rw c.load-framer.ensures (state_small state (search rules))) c.feed-fed.ensures in
     (omega arith, small.0)
 
 pub event_number-requires : goal.event_number-requires
 event_number-requires c =
     let small : (c.feed-fed.result.framer.count ≤ 255) × (event_number c.feed-fed.result.event ≤ 255) =
-        let state = c.args.state.now in fed_small c.feed-fed.result _ _ (rw c.load-framer.ensures (state_small state (search rules))) c.feed-fed.ensures in
+    let state = c.args.state.now in fed_small c.feed-fed.result _ _ (rw c.load-framer.ensures (state_small state (search rules))) c.feed-fed.ensures in
     small.1
 
 pub returns : goal.returns

@@ -1,11 +1,7 @@
-use borrow.Author.Rules.{rules}
 use native.Mathlib.Omega.{arith}
-use Prim.Native.Nat.{◌≤◌}
 use mathlib.Core.Path.{sym}
-use lib.ListN.{length, take}
 use lib.Seq.{length-take-le}
 use Rattle.c_feed.specs.Feed.{framer_in}
-use Rattle.c_feed.proofs.FeedLaws.{copied_whole}
 use Rattle.c_feed.proofs.load.Goals as goal
 
 pub copy_from_slice-requires : goal.copy_from_slice-requires

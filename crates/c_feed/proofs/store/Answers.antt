@@ -1,4 +1,4 @@
-use Rattle.std.proofs.Common.{◌≡◌, ◌∙◌, length, ap, sym, arith, rules}
+use Rattle.std.proofs.Common.{◌≡◌, ◌∙◌, length, sym, arith, rules}
 use Rattle.std.proofs.Math.Seq.{length-take-le}
 use Rattle.c_feed.proofs.FeedLaws.{store_after}
 use Rattle.c_feed.proofs.store.Goals as goal

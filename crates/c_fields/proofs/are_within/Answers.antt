@@ -1,14 +1,12 @@
 use native.Mathlib.Omega.{arith}
-use Prim.Native.Nat.{◌-◌, ◌≤◌}
 use native.Mathlib.Numerals.{add-one}
-use mathlib.Core.Path.{◌≡◌, refl, sym, ◌∙◌}
-use mathlib.Core.Bool.{◌&&◌, and-true}
-use lib.ListN.{length}
+use mathlib.Core.Path.{refl, sym, ◌∙◌}
+use mathlib.Core.Bool.{and-true}
 use borrow.Author.Rules.{rules}
 use mir.Syntax.{w32}
-use Rattle.c_fields.specs.Ranges.{fits, ranges_between, at}
+use Rattle.c_fields.specs.Ranges.{at}
 use Rattle.c_numbers.proofs.NumberLaws.{kept}
-use Rattle.c_fields.proofs.RangeLaws.{fits_short, after, after_step, after_all}
+use Rattle.c_fields.proofs.RangeLaws.{fits_short, after_step, after_all}
 use Rattle.c_fields.proofs.are_within.Goals as goal
 
 pub returns-then-z-least : goal.returns-then-z-least

@@ -1,4 +1,3 @@
-use borrow.Author.Rules.{rules}
 use mathlib.Core.Path.{sym, ◌∙◌}
 use Rattle.c_fields.proofs.RangeLaws.{numbered_fit, numbered_unfit}
 use Rattle.c_fields.proofs.first_time_of.Goals as goal

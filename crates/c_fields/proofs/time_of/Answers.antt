@@ -1,4 +1,3 @@
-use borrow.Author.Rules.{rules}
 use Rattle.clock_time.specs.FieldRanges.{time_ranges}
 use Rattle.c_fields.proofs.RangeLaws.{all_fit, numbered_all, numbered_other}
 use Rattle.c_fields.proofs.time_of.Goals as goal

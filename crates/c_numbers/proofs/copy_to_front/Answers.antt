@@ -1,10 +1,9 @@
 use native.Mathlib.Omega.{arith}
-use Prim.Native.Nat.{◌-◌}
 use borrow.Author.Rules.{rules}
 use lib.IntN.{pos}
-use lib.ListN.{length, get_or}
+use lib.ListN.{get_or}
 use mir.Syntax.{w32}
-use Rattle.clock_time.proofs.CopyLaws.{Copied, copied_none, copied_more, copied_all}
+use Rattle.clock_time.proofs.CopyLaws.{copied_none, copied_more, copied_all}
 use Rattle.c_numbers.proofs.NumberLaws.{kept}
 use Rattle.c_numbers.proofs.copy_to_front.Goals as goal
 

@@ -1,4 +1,4 @@
-use borrow.Author.Rules.{rules, sfits_of}
+use borrow.Author.Rules.{sfits_of}
 use mir.Syntax.{w16, w32}
 use mir.Val.{SFits}
 use mir.Facts.{to_z-of_z}
@@ -10,7 +10,7 @@ pub returns : goal.returns
 unfolding time_numbers
 returns c =
     let offset_fits : SFits w16 c.args.t.utc_offset =
-        search sfits_of in
+    search sfits_of in
     let fits = c.ranges in
     rw (
       held w32 c.number.type_inv c.number.ensures,

@@ -1,4 +1,3 @@
-use borrow.Author.Rules.{rules}
 use mathlib.Core.Path.{◌∙◌}
 use mir.Syntax.{w32}
 use Rattle.c_numbers.specs.Numbers.{time_numbers, minute_numbers}

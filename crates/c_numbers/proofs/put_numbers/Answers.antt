@@ -1,4 +1,3 @@
-use borrow.Author.Rules.{rules}
 use Rattle.c_numbers.proofs.NumberLaws.{put_no_room, put_room}
 use Rattle.c_numbers.proofs.put_numbers.Goals as goal
 

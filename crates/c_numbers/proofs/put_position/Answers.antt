@@ -1,4 +1,4 @@
-use borrow.Author.Rules.{rules, sfits_of}
+use borrow.Author.Rules.{sfits_of}
 use mathlib.Core.Path.{◌∙◌}
 use mir.Syntax.{w32}
 use mir.Val.{SFits}
@@ -11,9 +11,9 @@ pub returns : goal.returns
 unfolding gps_numbers time_numbers
 returns c =
     let longitude_fits : SFits w32 c.args.g.position.longitude =
-        search sfits_of in
+    search sfits_of in
     let latitude_fits : SFits w32 c.args.g.position.latitude =
-        search sfits_of in
+    search sfits_of in
     c.put_with.ensures
     ∙ simp
     (to_z-of_z latitude_fits, to_z-of_z longitude_fits, held w32 c.number.type_inv c.number.ensures)

@@ -1,4 +1,3 @@
-use borrow.Author.Rules.{rules}
 use Rattle.c_numbers.specs.Numbers.{put_answer, time_numbers, put_numbers}
 use Rattle.c_numbers.proofs.put_time.Goals as goal
 

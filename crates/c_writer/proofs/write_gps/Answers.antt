@@ -1,4 +1,3 @@
-use borrow.Author.Rules.{rules}
 use Rattle.meinberg_gps.specs.Gps.{write_gps}
 use Rattle.c_writer.specs.Writers.{write_as}
 use Rattle.c_writer.proofs.write_gps.Goals as goal

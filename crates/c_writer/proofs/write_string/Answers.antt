@@ -1,4 +1,3 @@
-use borrow.Author.Rules.{rules}
 use native.Mathlib.Omega.{arith}
 use Rattle.time_string.specs.Kind.{kind_named}
 use Rattle.c_writer.specs.Writers.{write_from}

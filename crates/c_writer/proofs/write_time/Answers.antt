@@ -1,4 +1,3 @@
-use borrow.Author.Rules.{rules}
 use borrow.Author.Tests.{ne_eqb}
 use Rattle.c_writer.specs.Writers.{write_time}
 use Rattle.c_writer.proofs.write_time.Goals as goal

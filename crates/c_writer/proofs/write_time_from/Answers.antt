@@ -1,4 +1,3 @@
-use borrow.Author.Rules.{rules}
 use Rattle.c_writer.specs.Writers.{write_time_from}
 use Rattle.c_writer.proofs.write_time_from.Goals as goal
 

@@ -1,8 +1,5 @@
 use native.Mathlib.Omega.{arith}
-use Prim.Native.Nat.{◌-◌}
-use borrow.Author.Rules.{rules}
-use lib.ListN.{length}
-use Rattle.clock_time.proofs.CopyLaws.{Copied, copied_none, copied_more, copied_all}
+use Rattle.clock_time.proofs.CopyLaws.{copied_none, copied_more, copied_all}
 use Rattle.clock_time.proofs.copy_to_front.Goals as goal
 
 pub loop-i-init : goal.loop-i-init

@@ -1,9 +1,7 @@
 -- The invariant: the first `i` bytes are the new ones, and the rest is as it was.
-use native.Mathlib.Omega.{arith}
 use Prim.Native.Nat.{◌-◌}
-use borrow.Author.Rules.{rules}
 use lib.ListN.{length}
-use Rattle.clock_time.proofs.CopyLaws.{Copied, copied_none, copied_more, copied_all}
+use Rattle.clock_time.proofs.CopyLaws.{Copied}
 use Rattle.clock_time.proofs.copy_to_front.Given as goal
 
 abbrev pub invariant-loop-i : goal.invariant-loop-i

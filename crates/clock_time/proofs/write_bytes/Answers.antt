@@ -1,4 +1,3 @@
-use borrow.Author.Rules.{rules}
 use Rattle.clock_time.proofs.WritingLaws.{writing_unrepresentable, writing_no_room, writing_room}
 use Rattle.clock_time.proofs.write_bytes.Goals as goal
 

@@ -1,4 +1,3 @@
-use borrow.Author.Rules.{rules}
 use Rattle.elv_dcf7000.proofs.ElvLaws.{flag_fault_lem}
 use Rattle.elv_dcf7000.proofs.has_flag_fault.Goals as goal
 

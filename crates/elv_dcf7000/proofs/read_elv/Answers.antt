@@ -1,4 +1,3 @@
-use borrow.Author.Rules.{rules}
 use Rattle.clock_time.specs.Lists.{ascii}
 use Rattle.layout.proofs.TextLaws.{read_length, read_misfit, reading}
 use Rattle.elv_dcf7000.specs.Elv.{elv_layout, elv, read_elv}

@@ -1,4 +1,3 @@
-use borrow.Author.Rules.{rules}
 use mathlib.Core.Path.{◌≡◌, sym, ◌∙◌}
 use mathlib.Core.Bool.{false}
 use Rattle.elv_dcf7000.specs.Elv.{elv_flag_fault}
@@ -12,12 +11,12 @@ returns-then-has_flag_fault c =
 pub sent_fields-requires : goal.sent_fields-requires
 sent_fields-requires c =
     let faultless : elv_flag_fault c.args.s.now ≡ false =
-        sym c.has_flag_fault.ensures ∙ c.if-has_flag_fault.false in
+    sym c.has_flag_fault.ensures ∙ c.if-has_flag_fault.false in
     let p = c.requires in (p.0, (p.1, faultless))
 
 pub returns : goal.returns
 returns c =
     let faultless : elv_flag_fault c.args.s.now ≡ false =
-        sym c.has_flag_fault.ensures ∙ c.if-has_flag_fault.false in
+    sym c.has_flag_fault.ensures ∙ c.if-has_flag_fault.false in
     let checked-is = rw c.sent_fields.ensures at c.check_without_weekday.ensures in
     read_clock_lem c.requires.1 faultless _ checked-is

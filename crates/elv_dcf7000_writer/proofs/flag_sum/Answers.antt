@@ -1,4 +1,3 @@
-use borrow.Author.Rules.{rules}
 use native.Mathlib.Omega.{arith}
 use Rattle.gregorian.proofs.DateLaws.{byte_small}
 use Rattle.elv_dcf7000.proofs.ElvLaws.{flag_sum_bytes}

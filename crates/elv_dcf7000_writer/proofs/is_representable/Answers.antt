@@ -1,4 +1,4 @@
-use borrow.Author.Rules.{rules, sfits_of}
+use borrow.Author.Rules.{sfits_of}
 use mir.Syntax.{w16}
 use mir.Val.{SFits}
 use mir.Facts.{to_z-of_z}
@@ -9,7 +9,7 @@ pub returns : goal.returns
 unfolding elv_representable
 returns c =
     let offset_fits : SFits w16 c.args.t.utc_offset =
-        search sfits_of in
+    search sfits_of in
     let said : SFits w16 c.offset_of.result = search sfits_of in
     rw (c.same_offset-zone.ensures, to_z-of_z said)
     (simp (to_z-of_z offset_fits, c.weekday_or_zero-weekday.ensures, c.offset_of.ensures))

@@ -1,4 +1,3 @@
-use borrow.Author.Rules.{rules}
 use mathlib.Core.Path.{◌∙◌}
 use Rattle.elv_dcf7000.specs.Elv.{elv_text}
 use Rattle.elv_dcf7000_writer.proofs.text_of.Goals as goal

@@ -1,4 +1,3 @@
-use borrow.Author.Rules.{rules}
 use Rattle.layout.proofs.DecideLaws.{clock_writes}
 use Rattle.elv_dcf7000.specs.Elv.{elv, write_elv}
 use Rattle.elv_dcf7000.proofs.ElvLaws.{decides}

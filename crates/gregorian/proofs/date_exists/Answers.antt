@@ -1,4 +1,3 @@
-use Rattle.std.proofs.Common.{rules}
 use Rattle.gregorian.proofs.DateLaws.{early_day, late_day, no_date}
 use Rattle.gregorian.proofs.date_exists.Goals as goal
 

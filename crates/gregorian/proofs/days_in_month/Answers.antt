@@ -1,5 +1,5 @@
 -- The lengths of the months by their number.
-use Rattle.std.proofs.Common.{eqb, sym, arith, rules}
+use Rattle.std.proofs.Common.{eqb, sym, arith}
 use Rattle.gregorian.specs.Date.{is_leap_year, days_in_month}
 use Rattle.gregorian.proofs.DateLaws.{byte_small, lacking_small, no_month, some_month, month_length}
 use Rattle.gregorian.proofs.days_in_month.Goals as goal

@@ -1,4 +1,3 @@
-use Rattle.std.proofs.Common.{rules}
 use Rattle.gregorian.specs.Date.{supported_date}
 use Rattle.gregorian.proofs.is_supported_date.Goals as goal
 

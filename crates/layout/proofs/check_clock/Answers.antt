@@ -1,4 +1,4 @@
-use borrow.Author.Rules.{rules, sfits_of}
+use borrow.Author.Rules.{sfits_of}
 use mathlib.Core.Path.{◌≡◌, sym, ◌∙◌}
 use mathlib.Core.Bool.{cond, not, ◌&&◌}
 use lib.Dec.{leb}
@@ -17,7 +17,7 @@ pub returns-then-time_exists-mismatch : goal.returns-then-time_exists-mismatch
 unfolding clock_checks supported_day
 returns-then-time_exists-mismatch c =
     let offset_fits : SFits w16 c.args.t.utc_offset =
-        search sfits_of in
+    search sfits_of in
     let time = rw (to_z-of_z offset_fits) at c.time_exists.ensures in
     simp (← c.is_supported_date.ensures, c.if-not-is_supported_date.false, ← time, c.if-time_exists-mismatch.true)
 
@@ -25,12 +25,12 @@ pub returns-then-t : goal.returns-then-t
 unfolding clock_checks supported_day
 returns-then-t c =
     let dated : checked (clock_checks (supported_day c.args.t) c.args.t c.args.mismatch) c.args.t ≡ cond (not (leb 1 c.args.t.weekday && leb c.args.t.weekday 7)) (refused 7) (accepted c.args.t) =
-        let offset_fits : SFits w16 c.args.t.utc_offset = search sfits_of in let time = rw (to_z-of_z offset_fits) at c.time_exists.ensures in simp (← c.is_supported_date.ensures, c.if-not-is_supported_date.false, ← time, c.if-time_exists-mismatch.false) in
+    let offset_fits : SFits w16 c.args.t.utc_offset = search sfits_of in let time = rw (to_z-of_z offset_fits) at c.time_exists.ensures in simp (← c.is_supported_date.ensures, c.if-not-is_supported_date.false, ← time, c.if-time_exists-mismatch.false) in
     sym (dated ∙ simp c.if-t.true)
 
 pub returns : goal.returns
 unfolding clock_checks supported_day
 returns c =
     let dated : checked (clock_checks (supported_day c.args.t) c.args.t c.args.mismatch) c.args.t ≡ cond (not (leb 1 c.args.t.weekday && leb c.args.t.weekday 7)) (refused 7) (accepted c.args.t) =
-        let offset_fits : SFits w16 c.args.t.utc_offset = search sfits_of in let time = rw (to_z-of_z offset_fits) at c.time_exists.ensures in simp (← c.is_supported_date.ensures, c.if-not-is_supported_date.false, ← time, c.if-time_exists-mismatch.false) in
+    let offset_fits : SFits w16 c.args.t.utc_offset = search sfits_of in let time = rw (to_z-of_z offset_fits) at c.time_exists.ensures in simp (← c.is_supported_date.ensures, c.if-not-is_supported_date.false, ← time, c.if-time_exists-mismatch.false) in
     sym (dated ∙ simp c.if-t.false)

@@ -1,7 +1,7 @@
-use borrow.Author.Rules.{rules, sfits_of}
+use borrow.Author.Rules.{sfits_of}
 use mathlib.Core.Path.{◌≡◌, sym, ◌∙◌}
 use mathlib.Core.Bool.{true, false}
-use borrow.Author.Tests.{le-leb, not-false}
+use borrow.Author.Tests.{le-leb}
 use mir.Syntax.{w16}
 use mir.Val.{SFits}
 use mir.Facts.{to_z-of_z}
@@ -30,14 +30,14 @@ pub returns-then-not-time_exists : goal.returns-then-not-time_exists
 unfolding clock_checks supported_day with_weekday
 returns-then-not-time_exists c =
     let offset_fits : SFits w16 c.args.t.utc_offset =
-        search sfits_of in
+    search sfits_of in
     let time = rw (to_z-of_z offset_fits) at c.time_exists.ensures in
     simp (← c.is_supported_date.ensures, c.if-not-is_supported_date.false, ← time, c.if-not-time_exists.true)
 
 pub returns : goal.returns
 returns c =
     let offset_fits : SFits w16 c.args.t.utc_offset =
-        search sfits_of in
+    search sfits_of in
     let date = sym c.is_supported_date.ensures ∙ c.if-not-is_supported_date.false in
     let time = rw (to_z-of_z offset_fits) at c.time_exists.ensures in
     rw c.with_weekday.ensures (passes _ date (sym time ∙ c.if-not-time_exists.false))

@@ -1,9 +1,8 @@
-use borrow.Author.Rules.{rules}
 use native.Mathlib.Omega.{arith}
-use Prim.Native.Nat.{◌+◌, ◌-◌, ◌≤◌, ◌<◌}
-use mathlib.Core.Path.{◌≡◌, sym, ◌∙◌}
-use lib.ListN.{length, drop}
-use Rattle.layout.specs.Layout.{patterned, first}
+use Prim.Native.Nat.{◌≤◌, ◌<◌}
+use mathlib.Core.Path.{sym, ◌∙◌}
+use lib.ListN.{length}
+use Rattle.layout.specs.Layout.{patterned}
 use Rattle.layout.proofs.LayoutLaws.{length_patterned, place_patterned, first_here, first_later, first_end}
 use Rattle.layout.proofs.first_offence.Goals as goal
 

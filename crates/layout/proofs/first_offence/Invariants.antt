@@ -1,11 +1,8 @@
 -- The invariant: the first place of the whole is `i` past the first of what is left.
-use borrow.Author.Rules.{rules}
-use native.Mathlib.Omega.{arith}
-use Prim.Native.Nat.{◌+◌, ◌-◌, ◌≤◌, ◌<◌}
-use mathlib.Core.Path.{◌≡◌, sym, ◌∙◌}
+use Prim.Native.Nat.{◌+◌, ◌-◌, ◌≤◌}
+use mathlib.Core.Path.{◌≡◌}
 use lib.ListN.{length, drop}
 use Rattle.layout.specs.Layout.{patterned, first}
-use Rattle.layout.proofs.LayoutLaws.{length_patterned, place_patterned, first_here, first_later, first_end}
 use Rattle.layout.proofs.first_offence.Given as goal
 
 abbrev pub invariant-loop-i : goal.invariant-loop-i

@@ -1,4 +1,3 @@
-use borrow.Author.Rules.{rules}
 use Rattle.clock_time.proofs.Tests.{tests}
 use Rattle.layout.specs.Layout.{layout_error}
 use Rattle.layout.proofs.LayoutLaws.{length_patterned}

@@ -1,4 +1,3 @@
-use borrow.Author.Rules.{rules}
 use Rattle.layout.specs.Layout.{offence}
 use Rattle.layout.proofs.offence_at.Goals as goal
 

@@ -1,4 +1,3 @@
-use borrow.Author.Rules.{rules}
 use borrow.Author.Tests.{ne_eqb}
 use Rattle.layout.specs.Layout.{pattern_place}
 use Rattle.layout.proofs.pattern_place.Goals as goal

@@ -1,4 +1,4 @@
-use Rattle.std.proofs.Common.{arith, rules}
+use Rattle.std.proofs.Common.{arith}
 use Rattle.layout_words.specs.Words.{word}
 use Rattle.layout_words.proofs.join.Goals as goal
 

@@ -1,4 +1,4 @@
-use Rattle.std.proofs.Common.{◌∙◌, rules}
+use Rattle.std.proofs.Common.{◌∙◌}
 use Rattle.layout_words.proofs.join_by_sample.Goals as goal
 
 pub returns : goal.returns

@@ -1,4 +1,4 @@
-use Rattle.std.proofs.Common.{arith, rules}
+use Rattle.std.proofs.Common.{arith}
 use lib.Bits.{and_le_r}
 use Rattle.layout_words.specs.Words.{word}
 use Rattle.layout_words.proofs.FlagLaws.{nonzero_word}

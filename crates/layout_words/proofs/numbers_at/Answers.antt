@@ -1,5 +1,5 @@
 -- The numbers are bytes of one sum.
-use Rattle.std.proofs.Common.{arith, rules}
+use Rattle.std.proofs.Common.{arith}
 use Rattle.layout_words.proofs.PairLaws.{sums_small, three_sums}
 use Rattle.layout_words.proofs.numbers_at.Goals as goal
 

@@ -1,4 +1,4 @@
-use Rattle.std.proofs.Common.{arith, rules}
+use Rattle.std.proofs.Common.{arith}
 use Rattle.layout_words.specs.Words.{word}
 use Rattle.layout_words.proofs.WordLaws.{no_bytes, enough_bytes, run_eight}
 use Rattle.layout_words.proofs.word_at.Goals as goal

@@ -1,4 +1,3 @@
-use borrow.Author.Rules.{rules}
 use Rattle.listing_lines.specs.Line.{write_line}
 use Rattle.listing_lines.proofs.write_line.Goals as goal
 

@@ -1,4 +1,3 @@
-use borrow.Author.Rules.{rules}
 use Rattle.clock_time.specs.Lists.{ascii}
 use Rattle.layout_words.proofs.PairLaws.{numbers_fit}
 use Rattle.meinberg_gps.specs.Gps.{gps_layout, leap_mismatch}

@@ -1,4 +1,3 @@
-use borrow.Author.Rules.{rules}
 use mathlib.Core.Path.{sym, ◌∙◌}
 use Rattle.meinberg_gps.proofs.ReadLaws.{read_offset, read_placed}
 use Rattle.meinberg_gps.proofs.read_fitting.Goals as goal

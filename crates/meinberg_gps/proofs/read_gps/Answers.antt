@@ -1,4 +1,3 @@
-use borrow.Author.Rules.{rules}
 use Rattle.clock_time.specs.Lists.{ascii}
 use Rattle.layout.proofs.TextLaws.{read_length, read_misfit, reading}
 use Rattle.meinberg_gps.specs.Gps.{gps_layout, gps, read_gps}

@@ -1,4 +1,3 @@
-use borrow.Author.Rules.{rules}
 use Rattle.meinberg_gps_position.proofs.AlignedLaws.{aligned_blank}
 use Rattle.meinberg_gps_position.proofs.angle_digits.Goals as goal
 

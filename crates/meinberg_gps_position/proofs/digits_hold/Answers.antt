@@ -1,4 +1,3 @@
-use borrow.Author.Rules.{rules}
 use Rattle.meinberg_gps_position.specs.Position.{angle_digits, position_digits}
 use Rattle.meinberg_gps_position.proofs.AlignedLaws.{aligned_blank}
 use Rattle.meinberg_gps_position.proofs.digits_hold.Goals as goal

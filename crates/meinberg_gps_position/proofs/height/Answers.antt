@@ -1,4 +1,3 @@
-use borrow.Author.Rules.{rules}
 use native.Mathlib.Omega.{arith}
 use Rattle.clock_time.specs.Lists.{slice}
 use Rattle.meinberg_gps_position.proofs.AlignedLaws.{value_small}

@@ -1,4 +1,4 @@
-use borrow.Author.Rules.{rules, sfits_of}
+use borrow.Author.Rules.{sfits_of}
 use mir.Facts.{to_z-of_z}
 use Rattle.meinberg_gps_position.specs.Position.{position_representable}
 use Rattle.meinberg_gps_position.proofs.is_representable.Goals as goal

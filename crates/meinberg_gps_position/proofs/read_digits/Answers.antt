@@ -1,4 +1,3 @@
-use borrow.Author.Rules.{rules}
 use Rattle.decimal.specs.Decimal.{is_digit, value_from}
 use Rattle.meinberg_gps_position.specs.Aligned.{digits_or_blanks}
 use Rattle.meinberg_gps_position.proofs.PositionLaws.{position_digits_lem, position_stands}

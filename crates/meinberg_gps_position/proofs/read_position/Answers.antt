@@ -1,4 +1,3 @@
-use borrow.Author.Rules.{rules}
 use mathlib.Core.Path.{sym, ◌∙◌}
 use Rattle.meinberg_gps_position.proofs.PositionLaws.{position_no_digits, position_short}
 use Rattle.meinberg_gps_position.proofs.read_position.Goals as goal

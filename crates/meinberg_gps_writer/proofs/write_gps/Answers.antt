@@ -1,4 +1,3 @@
-use borrow.Author.Rules.{rules}
 use Rattle.meinberg_gps.proofs.GpsLaws.{writes}
 use Rattle.meinberg_gps_writer.proofs.write_gps.Goals as goal
 

@@ -1,4 +1,3 @@
-use borrow.Author.Rules.{rules}
 use Rattle.clock_time.specs.Lists.{ascii}
 use Rattle.decimal.specs.Decimal.{digits}
 use Rattle.layout.specs.Text.{clock_digits}

@@ -1,4 +1,3 @@
-use borrow.Author.Rules.{rules}
 use Rattle.layout.proofs.DecideLaws.{clock_writes}
 use Rattle.meinberg_pzf.specs.Pzf.{pzf, write_pzf}
 use Rattle.meinberg_pzf.proofs.PzfLaws.{decides}

@@ -1,4 +1,3 @@
-use borrow.Author.Rules.{rules}
 use Rattle.clock_time.specs.Lists.{ascii}
 use Rattle.layout.specs.Layout.{sample_place, pattern_place}
 use Rattle.meinberg_standard.specs.Standard.{standard_layout}

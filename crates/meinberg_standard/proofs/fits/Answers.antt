@@ -1,5 +1,4 @@
 -- It is the layout's own test, eight places at once, and the string is long enough for each.
-use borrow.Author.Rules.{rules}
 use mathlib.Core.Bool.{true}
 use mathlib.Core.List.{[], ◌∷◌}
 use Rattle.clock_time.specs.Lists.{ascii}

@@ -1,4 +1,3 @@
-use borrow.Author.Rules.{rules}
 use Rattle.meinberg_standard.specs.Standard.{announced_letter}
 use Rattle.meinberg_standard_writer.proofs.announced_letter.Goals as goal
 

@@ -1,4 +1,4 @@
-use borrow.Author.Rules.{rules, sfits_of}
+use borrow.Author.Rules.{sfits_of}
 use mir.Syntax.{w16}
 use mir.Val.{SFits}
 use mir.Facts.{to_z-of_z}
@@ -9,7 +9,7 @@ pub returns : goal.returns
 unfolding standard_representable
 returns c =
     let offset_fits : SFits w16 c.args.t.utc_offset =
-        search sfits_of in
+    search sfits_of in
     let read : SFits w16 c.zone_offset-zone.result = search sfits_of in
     rw (c.same_offset.ensures, to_z-of_z read)
     (simp (to_z-of_z offset_fits, c.zone_offset-zone.ensures, c.zone_letter.ensures))

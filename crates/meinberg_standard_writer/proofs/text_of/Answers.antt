@@ -1,4 +1,4 @@
-use borrow.Author.Rules.{rules, sfits_of}
+use borrow.Author.Rules.{sfits_of}
 use mathlib.Core.Path.{◌∙◌}
 use mir.Syntax.{w16}
 use mir.Val.{SFits}
@@ -10,7 +10,7 @@ pub returns : goal.returns
 unfolding standard_text
 returns c =
     let offset_fits : SFits w16 c.args.t.utc_offset =
-        search sfits_of in
+    search sfits_of in
     c.text_with.ensures
     ∙ simp (
       to_z-of_z offset_fits,

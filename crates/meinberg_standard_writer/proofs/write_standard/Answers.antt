@@ -1,4 +1,3 @@
-use borrow.Author.Rules.{rules}
 use Rattle.layout.proofs.DecideLaws.{clock_writes}
 use Rattle.meinberg_standard.specs.Standard.{standard, write_standard}
 use Rattle.meinberg_standard.proofs.StandardLaws.{decides}

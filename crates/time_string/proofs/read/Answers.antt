@@ -1,4 +1,3 @@
-use borrow.Author.Rules.{rules}
 use mathlib.Core.Path.{ap, ◌∙◌}
 use Rattle.meinberg_standard.specs.Standard.{read_standard}
 use Rattle.meinberg_pzf.specs.Pzf.{read_pzf}

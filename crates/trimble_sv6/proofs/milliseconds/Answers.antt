@@ -1,4 +1,4 @@
-use Rattle.std.proofs.Common.{refl, rules}
+use Rattle.std.proofs.Common.{refl}
 use Rattle.clock_time.specs.Lists.{ascii}
 use Rattle.layout_words.proofs.PairLaws.{low_digit, numbers_four}
 use Rattle.trimble_sv6.specs.Trimble.{trimble_layout, milliseconds_of}

@@ -1,4 +1,4 @@
-use Rattle.std.proofs.Common.{◌≡◌, true, sym, ◌∙◌, rules}
+use Rattle.std.proofs.Common.{◌≡◌, true, sym, ◌∙◌}
 use borrow.Author.Tests.{ne_eqb, eq-eqb}
 use Rattle.trimble_sv6.specs.Sum.{sum_holds}
 use Rattle.trimble_sv6.proofs.TrimbleLaws.{read_sum, read_invalid, read_right}
@@ -11,12 +11,12 @@ returns-then-not-right c =
 pub returns-then-not-valid : goal.returns-then-not-valid
 returns-then-not-valid c =
     let right_sum : sum_holds c.args.s.now ≡ true =
-        sym c.holds-right.ensures ∙ c.if-not-right.false in
+    sym c.holds-right.ensures ∙ c.if-not-right.false in
     sym (read_invalid c.requires.1 right_sum (ne_eqb _ _ c.if-not-valid.true))
 
 pub returns : goal.returns
 returns c =
     let right_sum : sum_holds c.args.s.now ≡ true =
-        sym c.holds-right.ensures ∙ c.if-not-right.false in
+    sym c.holds-right.ensures ∙ c.if-not-right.false in
     c.read_clock.ensures
     ∙ sym (read_right c.requires.1 right_sum (eq-eqb _ _ c.if-not-valid.false))

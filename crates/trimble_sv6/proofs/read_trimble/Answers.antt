@@ -1,4 +1,3 @@
-use Rattle.std.proofs.Common.{rules}
 use Rattle.clock_time.specs.Lists.{ascii}
 use Rattle.layout.proofs.TextLaws.{read_length, read_misfit, reading}
 use Rattle.trimble_sv6.specs.Trimble.{trimble_layout, trimble, read_trimble}

@@ -1,4 +1,3 @@
-use borrow.Author.Rules.{rules}
 use Rattle.c_readings.specs.Strings.{unix_time_of}
 use Rattle.c_readings.proofs.instant.radio_clock_unix_time.Goals as goal
 

@@ -1,4 +1,3 @@
-use borrow.Author.Rules.{rules}
 use Rattle.c_readings.specs.Minutes.{read_minute_into}
 use Rattle.c_readings.proofs.minutes.radio_clock_read_minute.Goals as goal
 

@@ -1,4 +1,3 @@
-use borrow.Author.Rules.{rules}
 use Rattle.c_readings.specs.Strings.{kind_number_of}
 use Rattle.c_readings.proofs.strings.radio_clock_kind.Goals as goal
 

@@ -1,4 +1,3 @@
-use borrow.Author.Rules.{rules}
 use native.Mathlib.Omega.{arith}
 use Rattle.meinberg_standard.specs.Standard.{read_standard}
 use Rattle.meinberg_pzf.specs.Pzf.{read_pzf}

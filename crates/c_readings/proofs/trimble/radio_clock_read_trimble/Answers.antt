@@ -1,4 +1,3 @@
-use borrow.Author.Rules.{rules}
 use Rattle.c_readings.specs.Trimble.{read_trimble_into}
 use Rattle.c_readings.proofs.trimble.radio_clock_read_trimble.Goals as goal
 

@@ -1,4 +1,3 @@
-use borrow.Author.Rules.{rules}
 use mathlib.Core.Path.{sym, ◌∙◌}
 use Rattle.calendar.specs.Date.{day_number}
 use Rattle.calendar.proofs.date.day_number.Goals as goal

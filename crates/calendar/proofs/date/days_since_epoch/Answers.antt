@@ -1,4 +1,3 @@
-use borrow.Author.Rules.{rules}
 use native.Mathlib.Omega.{arith}
 use Rattle.gregorian.proofs.DateLaws.{known}
 use Rattle.calendar.proofs.DateLaws.{days_small}

@@ -1,4 +1,3 @@
-use borrow.Author.Rules.{rules}
 use borrow.Author.Tests.{eq-eqb, ne_eqb}
 use Rattle.calendar.proofs.DateLaws.{weekday_answer}
 use Rattle.calendar.proofs.date.weekday_of.Goals as goal

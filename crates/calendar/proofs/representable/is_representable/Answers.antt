@@ -1,4 +1,3 @@
-use borrow.Author.Rules.{rules}
 use Rattle.calendar.specs.Representable.{is_representable}
 use Rattle.calendar.proofs.representable.is_representable.Goals as goal
 

@@ -1,5 +1,4 @@
 -- The shifted difference is above zero and has the same remainder.
-use borrow.Author.Rules.{rules}
 use native.Mathlib.Omega.{arith}
 use Prim.Native.Nat.{ℕ, ◌+◌, ◌*◌, ◌≤◌, ◌<◌, ◌^◌}
 use mathlib.Core.Path.{◌≡◌, ◌∙◌}
@@ -14,22 +13,22 @@ use Rattle.calendar.proofs.time_of_day.utc_minute.Goals as goal
 
 module _ (hour minute : ℕ) (offset : ℤ) (hour_fits : hour ≤ 255) (minute_fits : minute ≤ 255) (fits : SFits w16 offset)
   where
-  sub_fits : SFits w32 (to_z w32 (60 * hour + minute + 33120)
-      -ℤ to_z w32 (of_z w32 (to_z w16 (of_z w16 offset))))
-  sub_fits =
-      let local = 60 * hour + minute + 33120 in
-      let h : local < 2 ^ 31 = omega arith in
-      rw (to_z_pos w32 h, widened w32 tt fits)
-      (record { sfits = difference_magnitude local offset (2 ^ 31) (omega (arith, fits.sfits)) })
+    sub_fits : SFits w32 (to_z w32 (60 * hour + minute + 33120)
+        -ℤ to_z w32 (of_z w32 (to_z w16 (of_z w16 offset))))
+    sub_fits =
+        let local = 60 * hour + minute + 33120 in
+        let h : local < 2 ^ 31 = omega arith in
+        rw (to_z_pos w32 h, widened w32 tt fits)
+        (record { sfits = difference_magnitude local offset (2 ^ 31) (omega (arith, fits.sfits)) })
 
-  held : to_z w32 (of_z w32 (to_z w32 (60 * hour + minute + 33120) -ℤ to_z w32 (of_z w32 (to_z w16 (of_z w16
-      offset))))) ≡ pos (60 * hour + minute + 33120) -ℤ offset
-  held =
-      let h : 60 * hour + minute + 33120 < 2 ^ 31 = omega arith in
-      to_z-of_z sub_fits ∙ rw (to_z_pos w32 h, widened w32 tt fits)
+    held : to_z w32 (of_z w32 (to_z w32 (60 * hour + minute + 33120) -ℤ to_z w32 (of_z w32 (to_z w16 (of_z w16
+        offset))))) ≡ pos (60 * hour + minute + 33120) -ℤ offset
+    held =
+        let h : 60 * hour + minute + 33120 < 2 ^ 31 = omega arith in
+        to_z-of_z sub_fits ∙ rw (to_z_pos w32 h, widened w32 tt fits)
 
-  above : Shifted (60 * hour + minute) offset
-  above = shifted (60 * hour + minute) offset fits.sfits
+    above : Shifted (60 * hour + minute) offset
+    above = shifted (60 * hour + minute) offset fits.sfits
 
 pub overflow_cast-shifted-2 : goal.overflow_cast-shifted-2
 overflow_cast-shifted-2 c = rw (to_z-of_z c.ranges.offset) (sfits_widen tt c.ranges.offset)

@@ -1,4 +1,3 @@
-use borrow.Author.Rules.{rules}
 use Rattle.demands.proofs.Demand1 as demand-1
 use Rattle.demands.proofs.Demand2 as demand-2
 use Rattle.demands.proofs.calls_of_readings.radio_clock_write_minute.Goals as goal

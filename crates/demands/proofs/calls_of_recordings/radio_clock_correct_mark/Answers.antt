@@ -1,4 +1,3 @@
-use borrow.Author.Rules.{rules}
 use Rattle.demands.proofs.Demand1 as demand-1
 use Rattle.demands.proofs.Demand3 as demand_3
 use Rattle.demands.proofs.calls_of_recordings.radio_clock_correct_mark.Goals as goal

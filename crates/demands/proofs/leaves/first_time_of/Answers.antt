@@ -1,4 +1,3 @@
-use borrow.Author.Rules.{rules}
 use Rattle.demands.proofs.Demand1 as demand-1
 use Rattle.demands.proofs.leaves.first_time_of.Goals as goal
 

@@ -1,4 +1,3 @@
-use borrow.Author.Rules.{rules}
 use mathlib.Core.Path.{sym}
 use Rattle.dcf77_outcome.proofs.Theorems.{run_number_exactly}
 use Rattle.demands.proofs.minutes.run_number.Goals as goal

@@ -1,4 +1,3 @@
-use borrow.Author.Rules.{rules}
 use mathlib.Core.Path.{sym, ap, ◌∙◌}
 use Rattle.framing.specs.declared.FeedResult.{FeedResult}
 use Rattle.framing.proofs.Theorems as framing

@@ -1,4 +1,3 @@
-use borrow.Author.Rules.{rules}
 use Rattle.demands.proofs.StreamLaws as streams
 use Rattle.demands.proofs.streams.list.Goals as goal
 

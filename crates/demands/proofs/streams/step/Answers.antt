@@ -1,4 +1,3 @@
-use borrow.Author.Rules.{rules}
 use mathlib.Core.Path.{sym, ap, ◌∙◌}
 use Rattle.framing.specs.declared.StepResult.{StepResult}
 use Rattle.framing.proofs.Theorems as framing

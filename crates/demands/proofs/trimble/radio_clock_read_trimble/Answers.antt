@@ -1,4 +1,3 @@
-use borrow.Author.Rules.{rules}
 use Rattle.demands.proofs.Demand1 as demand-1
 use Rattle.demands.proofs.Demand2 as demand-2
 use Rattle.demands.proofs.trimble.radio_clock_read_trimble.Goals as goal

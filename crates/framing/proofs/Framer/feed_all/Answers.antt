@@ -1,11 +1,5 @@
-use Prim.Native.Nat.{◌-◌}
 use native.Mathlib.Omega.{arith}
 use mathlib.Core.Path.{sym, ◌∙◌}
-use borrow.Author.Rules.{rules}
-use borrow.Author.Tests.{not-true, not-false}
-use lib.ListN.{length}
-use Rattle.framing.specs.Step.{framer_of}
-use Rattle.framing.specs.Run.{Taken}
 use Rattle.framing.proofs.FeedLaws.{taken_none, taken_more, taken_end, taken_step, taken_stop}
 use Rattle.framing.proofs.Framer.feed_all.Goals as goal
 

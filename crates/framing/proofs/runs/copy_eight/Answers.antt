@@ -1,8 +1,6 @@
-use Prim.Native.Nat.{◌≤◌, ◌-◌}
 use native.Mathlib.Numerals.{add-one}
 use native.Mathlib.Omega.{arith}
 use mathlib.Core.Path.{◌≡◌, refl}
-use Rattle.framing.specs.Run.{copied}
 use Rattle.framing.proofs.runs.copy_eight.Goals as goal
 
 pub loop-k-init : goal.loop-k-init

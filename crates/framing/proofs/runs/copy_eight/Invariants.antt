@@ -1,8 +1,6 @@
 -- The loop's invariant: k bytes are copied. The measure is how many are left.
 use Prim.Native.Nat.{◌≤◌, ◌-◌}
-use native.Mathlib.Numerals.{add-one}
-use native.Mathlib.Omega.{arith}
-use mathlib.Core.Path.{◌≡◌, refl}
+use mathlib.Core.Path.{◌≡◌}
 use Rattle.framing.specs.Run.{copied}
 use Rattle.framing.proofs.runs.copy_eight.Given as goal
 

@@ -1,12 +1,6 @@
-use borrow.Author.Rules.{rules}
-use Prim.Native.Nat.{◌+◌, ◌≤◌, ◌-◌}
 use native.Mathlib.Nat.{add_assoc}
 use native.Mathlib.Omega.{arith}
 use mathlib.Core.Path.{refl}
-use Rattle.framing.specs.declared.Mode.TheVariants.{Inside}
-use Rattle.framing.specs.declared.Framer.{Framer}
-use Rattle.framing.specs.Run.{Taken}
-use Rattle.framing.specs.Step.{framer_of}
 use Rattle.framing.proofs.StepLaws.{step_keeps}
 use Rattle.framing.proofs.FeedLaws.{taken_step}
 use Rattle.framing.proofs.runs.keep.Goals as goal

@@ -1,16 +1,10 @@
 -- The loop's invariant: i is at most `end`, and if the bytes before the loop's start are taken and kept, so are those
 -- before i. The measure is what is left up to `end`.
-use borrow.Author.Rules.{rules}
 use Prim.Native.Nat.{◌+◌, ◌≤◌, ◌-◌}
-use native.Mathlib.Nat.{add_assoc}
-use native.Mathlib.Omega.{arith}
-use mathlib.Core.Path.{refl}
 use Rattle.framing.specs.declared.Mode.TheVariants.{Inside}
 use Rattle.framing.specs.declared.Framer.{Framer}
 use Rattle.framing.specs.Run.{Taken}
 use Rattle.framing.specs.Step.{framer_of}
-use Rattle.framing.proofs.StepLaws.{step_keeps}
-use Rattle.framing.proofs.FeedLaws.{taken_step}
 use Rattle.framing.proofs.runs.keep.Given as goal
 
 abbrev pub invariant-loop-i : goal.invariant-loop-i

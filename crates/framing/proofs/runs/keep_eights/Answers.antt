@@ -1,11 +1,5 @@
-use borrow.Author.Rules.{rules}
-use Prim.Native.Nat.{◌+◌, ◌≤◌, ◌-◌}
 use native.Mathlib.Nat.{add-zero, add_assoc}
 use native.Mathlib.Omega.{arith}
-use borrow.Author.Tests.{not-false}
-use Rattle.framing.specs.declared.Mode.TheVariants.{Inside}
-use Rattle.framing.specs.Run.{Taken}
-use Rattle.framing.specs.Step.{framer_of}
 use Rattle.framing.proofs.FeedLaws.{taken_none}
 use Rattle.framing.proofs.PlainLaws.{taken_plain}
 use Rattle.framing.proofs.runs.keep_eights.Goals as goal

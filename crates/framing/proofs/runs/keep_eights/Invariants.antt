@@ -1,14 +1,8 @@
 -- The loop's invariant: the bytes before i, at most `end`, are taken and kept. The measure is what is left up to `end`.
-use borrow.Author.Rules.{rules}
 use Prim.Native.Nat.{◌+◌, ◌≤◌, ◌-◌}
-use native.Mathlib.Nat.{add-zero, add_assoc}
-use native.Mathlib.Omega.{arith}
-use borrow.Author.Tests.{not-false}
 use Rattle.framing.specs.declared.Mode.TheVariants.{Inside}
 use Rattle.framing.specs.Run.{Taken}
 use Rattle.framing.specs.Step.{framer_of}
-use Rattle.framing.proofs.FeedLaws.{taken_none}
-use Rattle.framing.proofs.PlainLaws.{taken_plain}
 use Rattle.framing.proofs.runs.keep_eights.Given as goal
 
 abbrev pub invariant-loop-i : goal.invariant-loop-i

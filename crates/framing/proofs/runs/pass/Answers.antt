@@ -1,5 +1,4 @@
 -- A run for each mode.
-use borrow.Author.Rules.{rules}
 use Rattle.framing.proofs.StepLaws.{mode_more, mode_outside, still_outside, still_overlong}
 use Rattle.framing.proofs.runs.pass.Goals as goal
 

@@ -1,8 +1,5 @@
-use Prim.Native.Nat.{◌-◌}
 use native.Mathlib.Omega.{arith}
 use mathlib.Core.Path.{refl}
-use lib.ListN.{length}
-use Rattle.framing.specs.Run.{Skipped}
 use Rattle.framing.proofs.FeedLaws.{taken_none, taken_step}
 use Rattle.framing.proofs.runs.skip.Goals as goal
 

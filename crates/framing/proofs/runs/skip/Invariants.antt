@@ -1,10 +1,7 @@
 -- The loop's invariant: the bytes before i are skipped. The measure is what is left of the slice.
 use Prim.Native.Nat.{◌-◌}
-use native.Mathlib.Omega.{arith}
-use mathlib.Core.Path.{refl}
 use lib.ListN.{length}
 use Rattle.framing.specs.Run.{Skipped}
-use Rattle.framing.proofs.FeedLaws.{taken_none, taken_step}
 use Rattle.framing.proofs.runs.skip.Given as goal
 
 abbrev pub invariant-loop-i : goal.invariant-loop-i

@@ -1,7 +1,6 @@
 -- A law of the step for each way through the code.
 use native.Mathlib.Omega.{arith}
 use mathlib.Core.Path.{sym, ◌∙◌}
-use borrow.Author.Rules.{rules}
 use borrow.Author.Tests.{ne_eqb}
 use Rattle.framing.proofs.StepLaws.{inside_room, step_stx, step_etx, step_ends, step_plain, step_outside}
 use Rattle.framing.proofs.single.advance.Goals as goal

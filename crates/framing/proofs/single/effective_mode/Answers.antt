@@ -1,5 +1,4 @@
 use mathlib.Core.Path.{sym}
-use borrow.Author.Rules.{rules}
 use Rattle.framing.proofs.StepLaws.{mode_more, mode_outside, mode_inside, mode_full, mode_overlong}
 use Rattle.framing.proofs.single.effective_mode.Goals as goal
 

@@ -1,5 +1,5 @@
-use Rattle.std.proofs.Common.{◌-◌, length, arith, rules}
-use Rattle.listing.proofs.SoFarLaws.{ListedSoFar, so_far_none, Turn, turn, so_far_end, so_far_full}
+use Rattle.std.proofs.Common.{◌-◌, arith}
+use Rattle.listing.proofs.SoFarLaws.{so_far_none, Turn, turn, so_far_end, so_far_full}
 use Rattle.listing.proofs.Listing.list.Goals as goal
 
 pub loop-i-init : goal.loop-i-init
@@ -17,31 +17,31 @@ returns-then-out-at-lt35 c = so_far_full _ _ _ _ _ _ _ c.loop-i.invariant c.if-o
 pub put_line-requires : goal.put_line-requires
 put_line-requires c =
     let turn_of : let l = c.loop-i in Turn c.args.self c.args.s.now c.args.out.now l.i l.at l.out c.next_line-result.result =
-        turn _ _ _ _ _ _ _ c.loop-i.invariant _ c.loop-i-test.true c.if-out-at-lt35.false c.next_line-result.ensures in
+    turn _ _ _ _ _ _ _ c.loop-i.invariant _ c.loop-i-test.true c.if-out-at-lt35.false c.next_line-result.ensures in
     (turn_of.fits, c.next_line-result.ensures.fits)
 
 pub overflow_add-at : goal.overflow_add-at
 overflow_add-at c =
     let turn_of : let l = c.loop-i in Turn c.args.self c.args.s.now c.args.out.now l.i l.at l.out c.next_line-result.result =
-        turn _ _ _ _ _ _ _ c.loop-i.invariant _ c.loop-i-test.true c.if-out-at-lt35.false c.next_line-result.ensures in
+    turn _ _ _ _ _ _ _ c.loop-i.invariant _ c.loop-i-test.true c.if-out-at-lt35.false c.next_line-result.ensures in
     omega (arith, turn_of.fits)
 
 pub overflow_add-i : goal.overflow_add-i
 overflow_add-i c =
     let turn_of : let l = c.loop-i in Turn c.args.self c.args.s.now c.args.out.now l.i l.at l.out c.next_line-result.result =
-        turn _ _ _ _ _ _ _ c.loop-i.invariant _ c.loop-i-test.true c.if-out-at-lt35.false c.next_line-result.ensures in
+    turn _ _ _ _ _ _ _ c.loop-i.invariant _ c.loop-i-test.true c.if-out-at-lt35.false c.next_line-result.ensures in
     omega (arith, turn_of.within)
 
 pub loop-i-smaller : goal.loop-i-smaller
 loop-i-smaller c =
     let turn_of : let l = c.loop-i in Turn c.args.self c.args.s.now c.args.out.now l.i l.at l.out c.next_line-result.result =
-        turn _ _ _ _ _ _ _ c.loop-i.invariant _ c.loop-i-test.true c.if-out-at-lt35.false c.next_line-result.ensures in
+    turn _ _ _ _ _ _ _ c.loop-i.invariant _ c.loop-i-test.true c.if-out-at-lt35.false c.next_line-result.ensures in
     omega (arith, turn_of.some)
 
 pub loop-i-preserved : goal.loop-i-preserved
 loop-i-preserved c =
     let turn_of : let l = c.loop-i in Turn c.args.self c.args.s.now c.args.out.now l.i l.at l.out c.next_line-result.result =
-        turn _ _ _ _ _ _ _ c.loop-i.invariant _ c.loop-i-test.true c.if-out-at-lt35.false c.next_line-result.ensures in
+    turn _ _ _ _ _ _ _ c.loop-i.invariant _ c.loop-i-test.true c.if-out-at-lt35.false c.next_line-result.ensures in
     rw c.put_line.ensures turn_of.more
 
 pub shape_of-out : goal.shape_of-out

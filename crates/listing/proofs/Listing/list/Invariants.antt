@@ -1,7 +1,7 @@
 -- The loop's invariant: the text of the bytes before i stands at the front of the buffer, and the listing goes on from
 -- there. The measure is what is left of the slice.
-use Rattle.std.proofs.Common.{◌-◌, length, arith, rules}
-use Rattle.listing.proofs.SoFarLaws.{ListedSoFar, so_far_none, Turn, turn, so_far_end, so_far_full}
+use Rattle.std.proofs.Common.{◌-◌, length}
+use Rattle.listing.proofs.SoFarLaws.{ListedSoFar}
 use Rattle.listing.proofs.Listing.list.Given as goal
 
 abbrev pub invariant-loop-i : goal.invariant-loop-i

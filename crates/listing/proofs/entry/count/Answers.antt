@@ -1,4 +1,3 @@
-use Rattle.std.proofs.Common.{rules}
 use Rattle.listing.specs.Items.{counted}
 use Rattle.listing.proofs.entry.count.Goals as goal
 

@@ -1,4 +1,4 @@
-use Rattle.std.proofs.Common.{refl, arith, rules}
+use Rattle.std.proofs.Common.{refl, arith}
 use Rattle.clock_time.specs.Lists.{ascii}
 use Rattle.listing.specs.Items.{item_line}
 use Rattle.listing.proofs.ItemsLaws.{number_below, shows_line}

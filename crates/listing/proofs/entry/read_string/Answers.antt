@@ -1,4 +1,4 @@
-use Rattle.std.proofs.Common.{◌∙◌, rules}
+use Rattle.std.proofs.Common.{◌∙◌}
 use Rattle.listing.specs.Items.{read_string}
 use Rattle.listing.proofs.entry.read_string.Goals as goal
 

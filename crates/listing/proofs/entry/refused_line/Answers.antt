@@ -1,4 +1,4 @@
-use Rattle.std.proofs.Common.{arith, rules}
+use Rattle.std.proofs.Common.{arith}
 use Rattle.clock_time.specs.Lists.{ascii}
 use Rattle.listing.specs.Items.{item_line}
 use Rattle.listing_lines.proofs.NumeralLaws.{numeral_one, numeral_two}

@@ -1,6 +1,6 @@
 use native.Mathlib.Omega.{arith}
 use mathlib.Core.Path.{refl}
-use Rattle.listing_lines.proofs.LastLineLaws.{Spelt, spelt_none, spelt_more, spelt_last, spelt_end}
+use Rattle.listing_lines.proofs.LastLineLaws.{spelt_none, spelt_more, spelt_last, spelt_end}
 use Rattle.listing_lines.proofs.NumeralLaws.{within_small}
 use Rattle.listing_lines.proofs.last_line.numeral_of.Goals as goal
 

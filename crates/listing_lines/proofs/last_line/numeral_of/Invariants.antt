@@ -1,8 +1,5 @@
 -- The loop's invariant: the digits after i are the number's last, and those of `rest` are left. The measure is i.
-use native.Mathlib.Omega.{arith}
-use mathlib.Core.Path.{refl}
-use Rattle.listing_lines.proofs.LastLineLaws.{Spelt, spelt_none, spelt_more, spelt_last, spelt_end}
-use Rattle.listing_lines.proofs.NumeralLaws.{within_small}
+use Rattle.listing_lines.proofs.LastLineLaws.{Spelt}
 use Rattle.listing_lines.proofs.last_line.numeral_of.Given as goal
 
 abbrev pub invariant-loop-i : goal.invariant-loop-i

@@ -1,4 +1,3 @@
-use borrow.Author.Rules.{rules}
 use mathlib.Core.Path.{refl}
 use Rattle.clock_time.specs.Lists.{ascii}
 use Rattle.listing_lines.proofs.LastLineLaws.{extends_line}

@@ -1,4 +1,3 @@
-use borrow.Author.Rules.{rules}
 use Rattle.listing_lines.specs.Line.{flags_text}
 use Rattle.listing_lines.proofs.line.flags_text.Goals as goal
 

@@ -1,4 +1,3 @@
-use borrow.Author.Rules.{rules}
 use mir.Syntax.{w16}
 use mir.Val.{SFits}
 use mir.Facts.{to_z-of_z}
@@ -15,7 +14,7 @@ pub returns : goal.returns
 unfolding line_with digits ascii clock_digits
 returns c =
     let offset_fits : SFits w16 c.args.t.utc_offset =
-        search sfits_of in
+    search sfits_of in
     let zone = rw (to_z-of_z offset_fits) at c.offset_text-zone.ensures in
     simp (c.clock_digits-d.ensures, c.pair-century.ensures, first_byte, second_byte)
     (line_parts c.args.t zone c.flags_text-flags.ensures)

@@ -1,4 +1,3 @@
-use borrow.Author.Rules.{rules}
 use mathlib.Core.Path.{refl}
 use lib.Dec.{lit≤}
 use Rattle.clock_time.specs.Lists.{ascii}

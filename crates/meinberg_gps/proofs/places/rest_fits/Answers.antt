@@ -1,5 +1,4 @@
 -- It is the layout's own test, place by place.
-use borrow.Author.Rules.{rules}
 use mathlib.Core.Bool.{true}
 use Rattle.clock_time.specs.Lists.{ascii, slice}
 use Rattle.layout.specs.Layout.{allowed, fits_from}

@@ -1,4 +1,3 @@
-use borrow.Author.Rules.{rules}
 use mathlib.Core.Bool.{and-true}
 use Rattle.meinberg_gps_position.specs.Aligned.{are_digits}
 use Rattle.meinberg_gps_position.proofs.digits.four_digits.Goals as goal

@@ -1,4 +1,3 @@
-use borrow.Author.Rules.{rules}
 use Rattle.meinberg_gps_position.specs.Aligned.{padded, aligned}
 use Rattle.meinberg_gps_position.proofs.text.aligned_text.Goals as goal
 

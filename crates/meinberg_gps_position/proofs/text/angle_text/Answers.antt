@@ -1,4 +1,3 @@
-use borrow.Author.Rules.{rules}
 use lib.Dec.{lit<}
 use mir.Facts.{to_z-of_z}
 use Rattle.clock_time.specs.Lists.{ascii}

@@ -1,4 +1,3 @@
-use borrow.Author.Rules.{rules}
 use Rattle.clock_time.proofs.Tests.{tests}
 use Rattle.meinberg_gps_position.specs.Aligned.{blank_or}
 use Rattle.meinberg_gps_position.proofs.text.digit_or_blank.Goals as goal

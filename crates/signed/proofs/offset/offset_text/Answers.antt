@@ -1,4 +1,3 @@
-use borrow.Author.Rules.{rules}
 use mir.Syntax.{w32}
 use mir.Facts.{to_z-of_z, sfits_widen}
 use Rattle.clock_time.specs.Lists.{ascii}

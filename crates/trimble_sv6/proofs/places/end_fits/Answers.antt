@@ -1,5 +1,5 @@
 -- `;*` stand there exactly if their number does.
-use Rattle.std.proofs.Common.{arith, rules}
+use Rattle.std.proofs.Common.{arith}
 use Rattle.trimble_sv6.proofs.PlaceLaws.{end_test}
 use Rattle.trimble_sv6.proofs.places.end_fits.Goals as goal
 

@@ -1,4 +1,3 @@
-use Rattle.std.proofs.Common.{rules}
 use Rattle.clock_time.specs.Lists.{ascii}
 use Rattle.layout.specs.Layout.{sample_place, pattern_place}
 use Rattle.trimble_sv6.specs.Trimble.{trimble_layout}

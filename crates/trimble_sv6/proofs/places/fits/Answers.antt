@@ -1,5 +1,5 @@
 -- It is the layout's own test, eight places at once, and the string is long enough for each.
-use Rattle.std.proofs.Common.{true, [], ◌∷◌, rules}
+use Rattle.std.proofs.Common.{true, [], ◌∷◌}
 use Rattle.clock_time.specs.Lists.{ascii}
 use Rattle.layout.specs.Layout.{sample_place, allowed, fits_from}
 use Rattle.layout.proofs.PartLaws.{parts_fit_lem}

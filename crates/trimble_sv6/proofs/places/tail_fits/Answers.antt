@@ -1,4 +1,4 @@
-use Rattle.std.proofs.Common.{arith, rules}
+use Rattle.std.proofs.Common.{arith}
 use Rattle.layout_words.specs.Words.{enough}
 use Rattle.trimble_sv6.proofs.PlaceLaws.{tail_test}
 use Rattle.trimble_sv6.proofs.places.tail_fits.Goals as goal

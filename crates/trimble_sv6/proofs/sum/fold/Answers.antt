@@ -1,5 +1,5 @@
 -- A word's eight bytes are folded to four, to two and to one.
-use Rattle.std.proofs.Common.{sym, rules}
+use Rattle.std.proofs.Common.{sym}
 use Rattle.trimble_sv6.proofs.SumLaws.{folded}
 use Rattle.trimble_sv6.proofs.sum.fold.Goals as goal
 

@@ -1,4 +1,4 @@
-use Rattle.std.proofs.Common.{ℕ, ◌+◌, ◌*◌, ◌/◌, ◌≤◌, arith, rules}
+use Rattle.std.proofs.Common.{ℕ, ◌+◌, ◌*◌, ◌/◌, ◌≤◌, arith}
 use lib.Bits.{bit_and, and_le_r}
 use Rattle.trimble_sv6.proofs.SumLaws.{pair_letters}
 use Rattle.trimble_sv6.proofs.sum.hex_pair.Goals as goal

@@ -1,5 +1,5 @@
 -- Two bytes are the digits exactly if their number is.
-use Rattle.std.proofs.Common.{arith, rules}
+use Rattle.std.proofs.Common.{arith}
 use Rattle.trimble_sv6.proofs.SumLaws.{sum_sent}
 use Rattle.trimble_sv6.proofs.sum.holds.Goals as goal
 

@@ -1,4 +1,4 @@
-use Rattle.std.proofs.Common.{◌≡◌, suc, ◌+◌, arith, rules}
+use Rattle.std.proofs.Common.{◌≡◌, suc, ◌+◌, arith}
 use Rattle.trimble_sv6.specs.Sum.{byte_pair}
 use Rattle.trimble_sv6.proofs.sum.pair_at.Goals as goal
 
@@ -7,12 +7,12 @@ overflow_mul-result c = omega (arith, c.wide-2.ensures, c.type_inv.s (c.args.at 
 
 pub overflow_add-result : goal.overflow_add-result
 overflow_add-result c = omega (
-      arith,
-      c.wide-2.ensures,
-      c.wide.ensures,
-      c.type_inv.s (c.args.at + 1),
-      c.type_inv.s c.args.at,
-    )
+  arith,
+  c.wide-2.ensures,
+  c.wide.ensures,
+  c.type_inv.s (c.args.at + 1),
+  c.type_inv.s c.args.at,
+)
 
 pub returns : goal.returns
 unfolding byte_pair

@@ -1,5 +1,5 @@
 # make                      this page
-# make test                 40 min   proves and runs everything from nothing; the last line is 'N passed, 0 failed'
+# make test                 40 min*  proves and runs everything; the last line is 'N passed, 0 failed'
 # make list FILE=...         3 min*  the program lists FILE, or samples/capture.bin
 # make library               5 min*  target/staticlib/libradio_clock.a
 # make collector             5 min*  target/c/collector
@@ -14,8 +14,9 @@
 # make bench                 6 min*  prints docs/BENCHMARKS.md
 # make clean                 1 s     removes target/
 #
-# Durations are about those of two cores. * is the first time: what it needs is proved, which shows a line for each
-# crate and leaves all that the prover says in target/prove.log. The next time it takes about a minute at most.
+# Durations are those of the kit before this one, on two cores. * is the first time: what it needs is proved, which shows
+# a line for each crate and leaves all that the prover says in target/prove.log. The next time it takes a minute or so,
+# make test a few.
 FILE ?= samples/capture.bin
 PREFIX ?= /usr/local
 BINDIR ?= $(PREFIX)/bin

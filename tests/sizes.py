@@ -26,9 +26,10 @@ def table():
     yield "|---|---|---|---|---|"
     total = [0, 0, 0]
     for line in (root / "crates.txt").read_text(encoding="utf-8").splitlines():
-        name = line.split("#")[0].split(":")[0].strip()
+        name = line.split("#")[0].split(":")[0].split()[:1]
         if not name:
             continue
+        name = name[0]
         crate = root / "crates" / name
         sizes = [lines(crate / "src", ".rt"), lines(crate / "specs", ".antt"), lines(crate / "proofs", ".antt")]
         total = [a + b for a, b in zip(total, sizes)]

@@ -9,13 +9,11 @@ use Rattle.time_string.proofs.read.Goals as goal
 
 pub returns-in-Standard : goal.returns-in-Standard
 unfolding read_as read_standard
-returns-in-Standard c = rw c.in-Standard.is
-    (c.without_position.ensures ∙ ap (shaped_answer without_position) c.read_standard.ensures)
+returns-in-Standard c = rw c.in-Standard.is (cc)
 
 pub returns-in-Pzf : goal.returns-in-Pzf
 unfolding read_as read_pzf
-returns-in-Pzf c = rw c.in-Pzf.is
-    (c.without_position-in-Pzf.ensures ∙ ap (shaped_answer without_position) c.read_pzf.ensures)
+returns-in-Pzf c = rw c.in-Pzf.is (cc)
 
 pub returns-in-Gps : goal.returns-in-Gps
 unfolding read_as read_gps written_gps

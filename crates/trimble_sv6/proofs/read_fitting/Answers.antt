@@ -10,13 +10,11 @@ returns-then-not-right c =
 
 pub returns-then-not-valid : goal.returns-then-not-valid
 returns-then-not-valid c =
-    let right_sum : sum_holds c.args.s.now ≡ true =
-    sym c.holds-right.ensures ∙ c.if-not-right.false in
+    let right_sum : sum_holds c.args.s.now ≡ true = cc in
     sym (read_invalid c.requires.1 right_sum (ne_eqb _ _ c.if-not-valid.true))
 
 pub returns : goal.returns
 returns c =
-    let right_sum : sum_holds c.args.s.now ≡ true =
-    sym c.holds-right.ensures ∙ c.if-not-right.false in
+    let right_sum : sum_holds c.args.s.now ≡ true = cc in
     c.read_clock.ensures
     ∙ sym (read_right c.requires.1 right_sum (eq-eqb _ _ c.if-not-valid.false))

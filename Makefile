@@ -79,11 +79,14 @@ outside: c-test commands-test dist-test $(LIST_TIMES)
 	python3 tests/list_times.py $(LIST_TIMES) samples/capture.bin
 
 # rt proves the crates below, then builds the library or the program in its crate's folder. To build a program is to run
-# it too.
+# it too. The C API is two crates; their archives are joined.
 library: $(LIBRARY)
 target/staticlib/libradio_clock.a: $(CRATES)
-	@tools/prove -C crates/radio_clock rt lib >&2
-	@install -D -m 644 crates/radio_clock/out/libradio_clock.a $@
+	@tools/prove -C crates/c_readings_c rt lib >&2
+	@tools/prove -C crates/c_recordings_c rt lib >&2
+	@mkdir -p $(@D)
+	@printf 'create %s\naddlib crates/%s\naddlib crates/%s\nsave\n' $@ c_readings_c/out/libc_readings_c.a \
+	    c_recordings_c/out/libc_recordings_c.a | $(AR) -M
 	@echo "built: $@" >&2
 target/bin/list_times: $(CRATES)
 	@tools/prove -C crates/list_times rt run -- --version >&2

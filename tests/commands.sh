@@ -6,12 +6,13 @@ set -euo pipefail
 cd "$(dirname "$0")/.."
 work=$(mktemp -d)
 trap 'rm -rf "$work"' EXIT
-mkdir -p "$work"/{bin,repository/.ci,repository/crates/{two/must-fail,radio_clock,list_times}}
+mkdir -p "$work"/{bin,repository/.ci,repository/crates/{two/must-fail,c_readings_c,c_recordings_c,list_times}}
 cp -r Makefile tools kit-version include "$work/repository"
 cp .ci/run "$work/gate"
 cd "$work/repository"
 touch crates/two/must-fail/{a,b}.edit
-printf '%s\n' '# crates' 'one:' 'two: one' 'radio_clock staticlib: two one' 'list_times: two' 'rest: one' > crates.txt
+printf '%s\n' '# crates' 'one:' 'two: one' 'c_readings_c staticlib: two one' \
+    'c_recordings_c staticlib: one' 'list_times: two' 'rest: one' > crates.txt
 
 cat > "$work/bin/rt" << 'END'
 #!/usr/bin/env bash
@@ -26,7 +27,7 @@ prover() { # NAME
 }
 status=0
 case "$folder $*" in
-"radio_clock lib" | "list_times run -- --version")
+"c_readings_c lib" | "c_recordings_c lib" | "list_times run -- --version")
     echo "rt: two: begins with what a check kept in /a/copy/crates/two"
     for name in one "$folder"; do
         echo "rt: chose --jobs 2 for $name"
@@ -36,8 +37,8 @@ case "$folder $*" in
     done
     mkdir -p out
     if [ "$1" = lib ]; then
-        rm -f out/libradio_clock.a
-        ar rc out/libradio_clock.a
+        rm -f "out/lib$folder.a"
+        ar rc "out/lib$folder.a"
     else
         printf '#!/bin/sh\necho listed\n' > out/list_times
         chmod +x out/list_times
@@ -55,7 +56,7 @@ case "$folder $*" in
     echo "rt: one proved"
     echo "rt: two is kept: an earlier run on this machine proved the same files over the same libraries"
     echo "rt: two: trying its must-fail edits (1)"
-    for name in list_times radio_clock rest; do
+    for name in list_times c_readings_c c_recordings_c rest; do
         echo "== $name"
         prover "$name"
         case "$name ${VERDICT:-}" in
@@ -74,10 +75,10 @@ case "$folder $*" in
     echo "rt: list_times ran, and wrote what its file stdout has"
     echo "rt: list_times ran (built by Rattle's own compiler), and wrote what its file stdout has"
     case "${VERDICT:-}" in
-    "") echo "rt: ok; handles allowed: none; must-fail edits: 2 refused; done in this run: 4 of the 5 proofs" ;;
+    "") echo "rt: ok; handles allowed: none; must-fail edits: 2 refused; done in this run: 5 of the 6 proofs" ;;
     bad)
         echo "rt: note: bad must-fail edits, as told above: 1. They fail nothing here"
-        echo "rt: ok; handles allowed: none; must-fail edits: 1 refused, 1 bad; done in this run: 4 of the 5 proofs"
+        echo "rt: ok; handles allowed: none; must-fail edits: 1 refused, 1 bad; done in this run: 5 of the 6 proofs"
         ;;
     *) echo "rt: FAILED: rest" ;;
     esac
@@ -115,17 +116,20 @@ expect() { # NAME WANTED GOT
     diff <(printf '%s\n' "$2") <(printf '%s\n' "$3" | sed -E 's/\([0-9]+ s so far\)$/(N s so far)/') ||
         { echo "$1: the lines with > were written"; exit 1; }
 }
-first='proved 1 of 5: one (N s so far)
+first='proved 1 of 6: one (N s so far)
 must-fail edits are tried: two, 1 (N s so far)
-proved 3 of 5: list_times (N s so far)
-proved 4 of 5: radio_clock (N s so far)'
-unchanged='unchanged since they were proved: 1 of 5'
+proved 3 of 6: list_times (N s so far)
+proved 4 of 6: c_readings_c (N s so far)
+proved 5 of 6: c_recordings_c (N s so far)'
+unchanged='unchanged since they were proved: 1 of 6'
 edits="must-fail 1 of 1: two, 2 refused, 1 in an earlier run
 ran: list_times
 ran: list_times (built by Rattle's own compiler)"
 library='proved 1 of 3: one (N s so far)
-proved 2 of 3: radio_clock (N s so far)
+proved 2 of 3: c_readings_c (N s so far)
 unchanged since they were proved: 1 of 3
+proved 1 of 2: one (N s so far)
+proved 2 of 2: c_recordings_c (N s so far)
 built: target/staticlib/libradio_clock.a'
 
 expect "plain make" "$(sed -n '/^#/!q; s/^# \{0,1\}//p' Makefile)" "$(make)"
@@ -134,10 +138,10 @@ for target in test list library collector logger install uninstall dist outside 
 done
 
 expect "make test" "$first
-proved 5 of 5: rest (N s so far)
+proved 6 of 6: rest (N s so far)
 $unchanged
 $edits
-ok; handles allowed: none; must-fail edits: 2 refused; done in this run: 4 of the 5 proofs
+ok; handles allowed: none; must-fail edits: 2 refused; done in this run: 5 of the 6 proofs
 rt ci ended with status 0
 rules kept
 $library

@@ -2,7 +2,7 @@
 #![tactic(auto)]
 
 ghost use Rattle.std.specs.Prelude.{◌≡◌, true, ◌<◌, nat_abs, length};
-ghost use Rattle.c_fields.specs.Numbered.{numbered_time, numbered_gps, numbered_minute};
+ghost use Rattle.clock_time.specs.Reading.{answer_of};
 ghost use Rattle.clock_time.specs.FieldRanges.{within, up_to, i16_range, time_ranges, gps_ranges};
 ghost use Rattle.c_fields.specs.Ranges.{minute_ranges, ranges_between};
 ghost use Rattle.c_fields.specs.Ranges.{fits, at, is_set, time_from, gps_from, minute_from, time_of};
@@ -12,27 +12,6 @@ use c_numbers::{GPS_FIELDS, MINUTE_FIELDS, TIME_FIELDS};
 use clock_time::{ClockTime, Error, MinuteDetail, Position};
 use dcf77::MinuteTime;
 use meinberg_gps::GpsTime;
-
-// The clock time that numbers stand for, or the error. No string is read here, so these are types of their own.
-#[derive(Clone, Copy)]
-pub enum NumberedTime {
-    Time(ClockTime),
-    Refused(Error),
-}
-
-// The clock time and position that numbers stand for, or the error.
-#[derive(Clone, Copy)]
-pub enum NumberedGps {
-    Gps(GpsTime),
-    Refused(Error),
-}
-
-// The minute that numbers stand for, or the error.
-#[derive(Clone, Copy)]
-pub enum NumberedMinute {
-    Minute(MinuteTime),
-    Refused(Error),
-}
 
 // The most in 16 and in 8 bits without a sign.
 const W: i32 = 65535;
@@ -161,44 +140,44 @@ fn is_time(z: &[i32]) -> bool
 
 // The clock time that the first 14 numbers are. Refuses with Unrepresentable (23) if one is outside the range of its
 // field, or there are fewer than 14.
-pub fn first_time_of(z: &[i32]) -> NumberedTime
-    ensures { numbered_time result ≡ first_time_of z.now }
+pub fn first_time_of(z: &[i32]) -> Result<ClockTime, Error>
+    ensures { answer_of result ≡ first_time_of z.now }
 {
     if is_time(z) {
-        return NumberedTime::Time(time_from(z));
+        return Ok(time_from(z));
     }
-    NumberedTime::Refused(Error::Unrepresentable)
+    Err(Error::Unrepresentable)
 }
 
 // The clock time that 14 numbers are. Refuses with Unrepresentable (23) if one is outside the range of its field, or
 // there are not 14.
-pub fn time_of(z: &[i32]) -> NumberedTime
-    ensures { numbered_time result ≡ time_of z.now }
+pub fn time_of(z: &[i32]) -> Result<ClockTime, Error>
+    ensures { answer_of result ≡ time_of z.now }
 {
     if (z.len() == TIME_FIELDS) & is_time(z) {
-        return NumberedTime::Time(time_from(z));
+        return Ok(time_from(z));
     }
-    NumberedTime::Refused(Error::Unrepresentable)
+    Err(Error::Unrepresentable)
 }
 
 // The clock time and position that 17 numbers are. Refuses with Unrepresentable (23) if one is outside the range of its
 // field, or there are not 17.
-pub fn gps_of(z: &[i32]) -> NumberedGps
-    ensures { numbered_gps result ≡ gps_of z.now }
+pub fn gps_of(z: &[i32]) -> Result<GpsTime, Error>
+    ensures { answer_of result ≡ gps_of z.now }
 {
     if (z.len() == GPS_FIELDS) & are_within(&GPS_LEAST, &GPS_MOST, z) {
-        return NumberedGps::Gps(gps_from(z));
+        return Ok(gps_from(z));
     }
-    NumberedGps::Refused(Error::Unrepresentable)
+    Err(Error::Unrepresentable)
 }
 
 // The minute that 16 numbers are. Refuses with Unrepresentable (23) if one is outside the range of its field, or there
 // are not 16.
-pub fn minute_of(z: &[i32]) -> NumberedMinute
-    ensures { numbered_minute result ≡ minute_of z.now }
+pub fn minute_of(z: &[i32]) -> Result<MinuteTime, Error>
+    ensures { answer_of result ≡ minute_of z.now }
 {
     if (z.len() == MINUTE_FIELDS) & are_within(&MINUTE_LEAST, &MINUTE_MOST, z) {
-        return NumberedMinute::Minute(minute_from(z));
+        return Ok(minute_from(z));
     }
-    NumberedMinute::Refused(Error::Unrepresentable)
+    Err(Error::Unrepresentable)
 }

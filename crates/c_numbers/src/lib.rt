@@ -2,19 +2,16 @@
 #![tactic(auto)]
 
 ghost use Rattle.std.specs.Prelude.{◌≡◌, [], ◌∷◌, ◌++◌, ◌≤◌, pos, length, take, drop};
-ghost use Rattle.meinberg_gps.specs.Gps.{gps_answer};
-ghost use Rattle.dcf77.specs.Minute.{minute_answer};
-ghost use Rattle.trimble_sv6.specs.Trimble.{trimble_answer};
+ghost use Rattle.clock_time.specs.Reading.{answer_of};
 ghost use Rattle.clock_time.specs.Called.{called, called_memory};
-ghost use Rattle.clock_time.specs.Reading.{read_answer};
 ghost use Rattle.c_numbers.specs.Numbers.{flag_number, time_numbers, gps_numbers, minute_numbers, put_numbers};
 ghost use Rattle.c_numbers.specs.Numbers.{trimble_numbers, gps_count};
 ghost use Rattle.c_numbers.specs.Numbers.{put_answer};
 
-use clock_time::{ClockTime, ReadAnswer};
-use dcf77::{MinuteAnswer, MinuteTime};
-use meinberg_gps::{GpsAnswer, GpsTime};
-use trimble_sv6::{TrimbleAnswer, TrimbleTime};
+use clock_time::{ClockTime, Error};
+use dcf77::MinuteTime;
+use meinberg_gps::GpsTime;
+use trimble_sv6::TrimbleTime;
 
 // How many numbers a clock time is, one with a position, a minute, and a clock time with milliseconds.
 pub const TIME_FIELDS: usize = 14;
@@ -139,43 +136,43 @@ fn put_milliseconds(g: TrimbleTime, fields: &mut [i32]) -> u8
 
 // Puts the 14 numbers of a clock time that was read in the place of the first of those lent. Refuses as the reader did,
 // then with LentMemory (20) if there is no room.
-pub fn put_time(answer: ReadAnswer, fields: &mut [i32]) -> u8
-    ensures { called result fields.new ≡ called_memory (put_answer time_numbers (read_answer answer) fields.old) }
+pub fn put_time(answer: Result<ClockTime, Error>, fields: &mut [i32]) -> u8
+    ensures { called result fields.new ≡ called_memory (put_answer time_numbers (answer_of answer) fields.old) }
 {
     match answer {
-        ReadAnswer::Read(t) => put_with(t, 0, 0, 0, TIME_FIELDS, fields),
-        ReadAnswer::Refused(e) => clock_time::error_number(e),
+        Ok(t) => put_with(t, 0, 0, 0, TIME_FIELDS, fields),
+        Err(e) => u8::from(e),
     }
 }
 
 // The same for the 17 numbers of a GPS string.
-pub fn put_gps(answer: GpsAnswer, fields: &mut [i32]) -> u8
-    ensures { called result fields.new ≡ called_memory (put_answer gps_numbers (gps_answer answer) fields.old) }
+pub fn put_gps(answer: Result<GpsTime, Error>, fields: &mut [i32]) -> u8
+    ensures { called result fields.new ≡ called_memory (put_answer gps_numbers (answer_of answer) fields.old) }
 {
     match answer {
-        GpsAnswer::Read(g) => put_position(g, fields),
-        GpsAnswer::Refused(e) => clock_time::error_number(e),
+        Ok(g) => put_position(g, fields),
+        Err(e) => u8::from(e),
     }
 }
 
 // The same for the 16 numbers of a minute.
-pub fn put_minute(answer: MinuteAnswer, fields: &mut [i32]) -> u8
+pub fn put_minute(answer: Result<MinuteTime, Error>, fields: &mut [i32]) -> u8
     ensures { called result fields.new
-        ≡ called_memory (put_answer minute_numbers (minute_answer answer) fields.old) }
+        ≡ called_memory (put_answer minute_numbers (answer_of answer) fields.old) }
 {
     match answer {
-        MinuteAnswer::Read(a) => put_detail(a, fields),
-        MinuteAnswer::Refused(e) => clock_time::error_number(e),
+        Ok(a) => put_detail(a, fields),
+        Err(e) => u8::from(e),
     }
 }
 
 // The same for the 15 numbers of a Trimble string.
-pub fn put_trimble(answer: TrimbleAnswer, fields: &mut [i32]) -> u8
+pub fn put_trimble(answer: Result<TrimbleTime, Error>, fields: &mut [i32]) -> u8
     ensures { called result fields.new
-        ≡ called_memory (put_answer trimble_numbers (trimble_answer answer) fields.old) }
+        ≡ called_memory (put_answer trimble_numbers (answer_of answer) fields.old) }
 {
     match answer {
-        TrimbleAnswer::Read(g) => put_milliseconds(g, fields),
-        TrimbleAnswer::Refused(e) => clock_time::error_number(e),
+        Ok(g) => put_milliseconds(g, fields),
+        Err(e) => u8::from(e),
     }
 }

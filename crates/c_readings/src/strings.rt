@@ -5,7 +5,7 @@ ghost use Rattle.time_string.specs.Kind.{kind_number};
 ghost use Rattle.c_writer.specs.Writers.{write_from};
 ghost use Rattle.c_readings.specs.Strings.{kind_number_of, read_into};
 
-use time_string::{Kind, KindAnswer};
+use time_string::Kind;
 
 fn kind_number(k: Kind) -> u8
     ensures { result ≡ kind_number k }
@@ -23,11 +23,11 @@ pub fn radio_clock_kind(s: &[u8], kind: &mut u8) -> u8
     ensures { called result kind.new ≡ called_answer kind.old (kind_number_of s.now) }
 {
     match time_string::kind_of(s) {
-        KindAnswer::Kind(k) => {
+        Ok(k) => {
             *kind = kind_number(k);
             0
         }
-        KindAnswer::Refused(e) => clock_time::error_number(e),
+        Err(e) => u8::from(e),
     }
 }
 

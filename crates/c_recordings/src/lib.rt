@@ -7,8 +7,6 @@ ghost use Rattle.recording.specs.Recording.{outcome_at, fill_outcomes, recorded,
 ghost use Rattle.clock_time.specs.Called.{called, called_answer, called_memory, called_both};
 ghost use Rattle.dcf77_outcome.specs.Instant.{outcome_unix_time};
 
-use calendar::unix_time::UnixTime;
-use recording::{CorrectAnswer, FillAnswer, OutcomeAnswer};
 
 // Leaves the number that the rule gives a place behind `number`. Refuses with LentMemory (20) if there are more than
 // 100,000 marks, then with Place (21) if there is no such place.
@@ -16,11 +14,11 @@ pub fn radio_clock_outcome_at(marks: &[u8], place: usize, number: &mut u32) -> u
     ensures { called result number.new ≡ called_answer number.old (outcome_at marks.now place) }
 {
     match recording::outcome_at(marks, place) {
-        OutcomeAnswer::Number(n) => {
+        Ok(n) => {
             *number = n;
             0
         }
-        OutcomeAnswer::Refused(e) => clock_time::error_number(e),
+        Err(e) => u8::from(e),
     }
 }
 
@@ -30,11 +28,11 @@ pub fn radio_clock_outcome_unix_time(outcome: u32, time: &mut i64) -> u8
     ensures { called result time.new ≡ called_answer time.old (outcome_unix_time outcome) }
 {
     match dcf77_outcome::outcome_unix_time(outcome) {
-        UnixTime::At(z) => {
+        Ok(z) => {
             *time = z;
             0
         }
-        UnixTime::Refused(e) => clock_time::error_number(e),
+        Err(e) => u8::from(e),
     }
 }
 
@@ -44,8 +42,8 @@ pub fn radio_clock_fill_outcomes(marks: &[u8], outcomes: &mut [u32]) -> u8
     ensures { called result outcomes.new ≡ called_memory (fill_outcomes marks.now outcomes.old) }
 {
     match recording::fill_outcomes(marks, outcomes) {
-        FillAnswer::Filled => 0,
-        FillAnswer::Refused(e) => clock_time::error_number(e),
+        Ok(()) => 0,
+        Err(e) => u8::from(e),
     }
 }
 
@@ -63,10 +61,10 @@ pub fn radio_clock_correct_mark(
         ≡ called_both changed.old (correct_mark marks.old outcomes.old place mark) }
 {
     match recording::correct_mark(marks, outcomes, place, mark) {
-        CorrectAnswer::Corrected(n) => {
+        Ok(n) => {
             *changed = n;
             0
         }
-        CorrectAnswer::Refused(e) => clock_time::error_number(e),
+        Err(e) => u8::from(e),
     }
 }

@@ -6,11 +6,10 @@ ghost use Rattle.clock_time.specs.Writing.{written};
 ghost use Rattle.time_string.specs.declared.Kind.{Kind};
 ghost use Rattle.c_writer.specs.Writers.{write_time, write_time_from, write_as, write_from, write_minute_from};
 
-use c_fields::{NumberedGps, NumberedMinute, NumberedTime};
-use clock_time::{ClockTime, Error, WriteAnswer};
+use clock_time::{ClockTime, Error};
 
 // Writes a clock time as a string of kind 0 or 1, or of kind 3 for any other number.
-fn write_time(kind: u8, t: ClockTime, out: &mut [u8]) -> WriteAnswer
+fn write_time(kind: u8, t: ClockTime, out: &mut [u8]) -> Result<usize, Error>
     ensures { written result out.new ≡ write_time kind t out.old }
 {
     if kind == 0 {
@@ -23,33 +22,29 @@ fn write_time(kind: u8, t: ClockTime, out: &mut [u8]) -> WriteAnswer
 }
 
 // The same from the numbers of a clock time.
-fn write_time_from(kind: u8, fields: &[i32], out: &mut [u8]) -> WriteAnswer
+fn write_time_from(kind: u8, fields: &[i32], out: &mut [u8]) -> Result<usize, Error>
     ensures { written result out.new ≡ write_time_from kind fields.now out.old }
 {
-    match c_fields::time_of(fields) {
-        NumberedTime::Time(t) => write_time(kind, t, out),
-        NumberedTime::Refused(e) => WriteAnswer::Refused(e),
-    }
+    let t = c_fields::time_of(fields)?;
+    write_time(kind, t, out)
 }
 
 // Writes the numbers of a clock time and position as a GPS string.
-fn write_gps(fields: &[i32], out: &mut [u8]) -> WriteAnswer
+fn write_gps(fields: &[i32], out: &mut [u8]) -> Result<usize, Error>
     ensures { written result out.new ≡ write_as Kind.Gps fields.now out.old }
 {
-    match c_fields::gps_of(fields) {
-        NumberedGps::Gps(g) => meinberg_gps_writer::write_gps(g, out),
-        NumberedGps::Refused(e) => WriteAnswer::Refused(e),
-    }
+    let g = c_fields::gps_of(fields)?;
+    meinberg_gps_writer::write_gps(g, out)
 }
 
 // Writes the numbers of a reading to the front of `out`, as a string of the kind that `kind` names. Refuses with Length
 // (1) if it names none, with Unrepresentable (23) if no such string is read as the numbers, then with LentMemory (20)
 // if there is no room.
-pub fn write_string(kind: u8, fields: &[i32], out: &mut [u8]) -> WriteAnswer
+pub fn write_string(kind: u8, fields: &[i32], out: &mut [u8]) -> Result<usize, Error>
     ensures { written result out.new ≡ write_from kind fields.now out.old }
 {
     if 3 < kind {
-        return WriteAnswer::Refused(Error::Length);
+        return Err(Error::Length);
     }
     if kind == 2 {
         return write_gps(fields, out);
@@ -59,11 +54,9 @@ pub fn write_string(kind: u8, fields: &[i32], out: &mut [u8]) -> WriteAnswer
 
 // Writes numbers as a run of marks to the front of `out`. Refuses with Unrepresentable (23) if no run is read as the
 // numbers, then with LentMemory (20) if there is no room.
-pub fn write_marks(fields: &[i32], out: &mut [u8]) -> WriteAnswer
+pub fn write_marks(fields: &[i32], out: &mut [u8]) -> Result<usize, Error>
     ensures { written result out.new ≡ write_minute_from fields.now out.old }
 {
-    match c_fields::minute_of(fields) {
-        NumberedMinute::Minute(a) => dcf77_writer::write_minute(a, out),
-        NumberedMinute::Refused(e) => WriteAnswer::Refused(e),
-    }
+    let a = c_fields::minute_of(fields)?;
+    dcf77_writer::write_minute(a, out)
 }

@@ -1,11 +1,9 @@
 -- The days from 1 January 1970 to a date, and its weekday.
 use Rattle.std.specs.Prelude.{ℕ, zero, suc, ◌+◌, ◌-◌, ◌%◌, cond, not, [], ◌∷◌, take}
-use Rattle.clock_time.specs.Errors.{Answer, accepted, refused, error_number, given, checked}
+use Rattle.clock_time.specs.Errors.{Answer, accepted, refused, given, checked}
 use Rattle.clock_time.specs.Lists.{sum}
 use Rattle.clock_time.specs.declared.ClockTime.{ClockTime}
 use Rattle.gregorian.specs.Date.{is_leap_year, month_lengths, first_year, last_year, supported_date}
-use Rattle.calendar.specs.declared.date.DateAnswer.{DateAnswer}
-use Rattle.calendar.specs.declared.date.DateAnswer.TheVariants.{Number, Refused}
 
 -- the days of `count` years from `year` on
 unfoldable pub days_of_years : ℕ → ℕ → ℕ
@@ -59,8 +57,3 @@ with_weekday t =
       leap_second_announced = t.leap_second_announced;
       alternate_antenna = t.alternate_antenna;
     }
-
--- the function's answer: a number, or a refusal with the error's number
-abbrev pub date_answer : DateAnswer → Answer ℕ
-date_answer (Number n) = accepted n
-date_answer (Refused e) = refused (error_number e)

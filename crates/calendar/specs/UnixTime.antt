@@ -1,12 +1,10 @@
 -- Unix time: the paper's instant.
 use Rattle.std.specs.Prelude.{◌+◌, ◌*◌, Bool, not, ◌&&◌, [], ◌∷◌, leb, ℤ, pos, nat_abs, ◌-ℤ◌, ◌*ℤ◌}
-use Rattle.clock_time.specs.Errors.{Answer, accepted, refused, error_number, given, checked}
+use Rattle.clock_time.specs.Errors.{Answer, accepted, refused, given, checked}
 use Rattle.gregorian.specs.Date.{supported_date, first_year, last_year}
 use Rattle.calendar.specs.Date.{days_since_epoch}
 use Rattle.calendar.specs.TimeOfDay.{time_exists}
 use Rattle.clock_time.specs.declared.ClockTime.{ClockTime}
-use Rattle.calendar.specs.declared.unix_time.UnixTime.{UnixTime}
-use Rattle.calendar.specs.declared.unix_time.UnixTime.TheVariants.{At, Refused}
 
 -- "offset at most 840 minutes either way" (01, The reading)
 unfoldable pub offset_in_range : ℤ → Bool
@@ -32,8 +30,3 @@ instant_of t =
 -- "Refused with 23 where the fields are no valid reading" (01, The reading)
 unfoldable pub unix_time : ClockTime → Answer ℤ
 unix_time t = checked (given 23 (not (is_reading t)) ∷ []) (instant_of t)
-
--- the function's answer: an instant, or a refusal with the error's number
-abbrev pub unix_time_answer : UnixTime → Answer ℤ
-unix_time_answer (At z) = accepted z
-unix_time_answer (Refused e) = refused (error_number e)

@@ -1,46 +1,38 @@
 // Days and weekdays of dates.
-ghost use Rattle.std.specs.Prelude.{◌≡◌, true, ◌+◌, ◌-◌, ◌*◌, ◌/◌, ◌<◌};
-ghost use Rattle.gregorian.specs.Date.{supported_date, first_year, last_year};
-ghost use Rattle.calendar.specs.Date.{days_since_epoch, day_number, weekday_of, weekday_or_zero, date_answer};
+ghost use Rattle.std.specs.Prelude.{◌≡◌, ◌+◌, ◌-◌, ◌*◌, ◌/◌, ◌<◌};
+ghost use Rattle.clock_time.specs.Reading.{answer_of};
+ghost use Rattle.calendar.specs.Date.{days_since_epoch, day_number, weekday_of, weekday_or_zero};
 ghost use Rattle.calendar.specs.Date.{with_weekday};
 
-use clock_time::{ClockTime, Error};
-use gregorian::{FIRST_YEAR, LAST_YEAR};
-
-// A number worked out from a date, or the error.
-#[derive(Clone, Copy)]
-pub enum DateAnswer {
-    Number(u32),
-    Refused(Error),
-}
+use clock_time::{ClockTime, Date, Error};
+use gregorian::supported::SupportedDate;
 
 // Days from 1 January 1970 to a date, less 365 for each year. At 489 / 16 days a month February has 30; from March on
 // two are taken off, and the year's own leap day is counted.
-fn days_less_years(year: u16, month: u8, day: u8) -> u32
-    requires { supported_date first_year last_year year month day ≡ true }
-    ensures { 365 * (year - 1970) + result ≡ days_since_epoch year month day }
+fn days_less_years(date: SupportedDate) -> u32
+    ensures { 365 * (date.date.year - 1970) + result ≡ days_since_epoch date.date.year date.date.month date.date.day }
 {
+    let Date { year, month, day } = date.date;
     let years = (year - 1970) as u32;
     let march = (2 < month) as u32;
     (years + 1 + march) / 4 + 489 * (month as u32) / 16 + day as u32 - 31 - 2 * march
 }
 
 // Days from 1 January 1970 to a date.
-pub(crate) fn days_since_epoch(year: u16, month: u8, day: u8) -> u32
-    requires { supported_date first_year last_year year month day ≡ true }
-    ensures { result ≡ days_since_epoch year month day }
+pub fn days_since_epoch(date: SupportedDate) -> u32
+    ensures { result ≡ days_since_epoch date.date.year date.date.month date.date.day }
 {
-    365 * ((year - 1970) as u32) + days_less_years(year, month, day)
+    365 * ((date.date.year - 1970) as u32) + days_less_years(date)
 }
 
 // The days from 1 January 1970 to a date. Refuses with NoSuchDate (5) if the date is not one of 1970 to 2069.
-pub fn day_number(year: u16, month: u8, day: u8) -> DateAnswer
-    ensures { date_answer result ≡ day_number year month day }
+pub fn day_number(date: Date) -> Result<u32, Error>
+    ensures { answer_of result ≡ day_number date.year date.month date.day }
 {
-    if gregorian::is_supported_date(FIRST_YEAR, LAST_YEAR, year, month, day) {
-        return DateAnswer::Number(days_since_epoch(year, month, day));
+    match SupportedDate::new(date) {
+        Some(supported) => Ok(days_since_epoch(supported)),
+        None => Err(Error::NoSuchDate),
     }
-    DateAnswer::Refused(Error::NoSuchDate)
 }
 
 // The weeks of fewer than 600 days.
@@ -52,14 +44,16 @@ fn weeks(days: u32) -> u32
 }
 
 // The weekday, 1 Monday to 7 Sunday; 0 if the date is not one of 1970 to 2069. Each 365 days move it on by one.
-pub fn weekday_or_zero(year: u16, month: u8, day: u8) -> u8
-    ensures { result ≡ weekday_or_zero year month day }
+pub fn weekday_or_zero(date: Date) -> u8
+    ensures { result ≡ weekday_or_zero date.year date.month date.day }
 {
-    if gregorian::is_supported_date(FIRST_YEAR, LAST_YEAR, year, month, day) {
-        let days = 3 + (year - 1970) as u32 + days_less_years(year, month, day);
-        return 1 + (days - 7 * weeks(days)) as u8;
+    match SupportedDate::new(date) {
+        Some(supported) => {
+            let days = 3 + (date.year - 1970) as u32 + days_less_years(supported);
+            1 + (days - 7 * weeks(days)) as u8
+        }
+        None => 0,
     }
-    0
 }
 
 // The clock time with the weekday of its date in place of its own.
@@ -67,18 +61,18 @@ pub fn with_weekday(t: ClockTime) -> ClockTime
     ensures { result ≡ with_weekday t }
 {
     ClockTime {
-        weekday: weekday_or_zero(t.year, t.month, t.day),
+        weekday: weekday_or_zero(t.date()),
         ..t
     }
 }
 
 // The weekday, 1 Monday to 7 Sunday. Refuses with NoSuchDate (5) if the date is not one of 1970 to 2069.
-pub fn weekday_of(year: u16, month: u8, day: u8) -> DateAnswer
-    ensures { date_answer result ≡ weekday_of year month day }
+pub fn weekday_of(date: Date) -> Result<u32, Error>
+    ensures { answer_of result ≡ weekday_of date.year date.month date.day }
 {
-    let weekday = weekday_or_zero(year, month, day);
+    let weekday = weekday_or_zero(date);
     if weekday == 0 {
-        return DateAnswer::Refused(Error::NoSuchDate);
+        return Err(Error::NoSuchDate);
     }
-    DateAnswer::Number(weekday as u32)
+    Ok(weekday as u32)
 }

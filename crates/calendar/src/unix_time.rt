@@ -1,17 +1,12 @@
 // Unix time of a clock time.
 ghost use Rattle.std.specs.Prelude.{◌≡◌, true, ◌*◌, ◌<◌, pos, ◌-ℤ◌, ◌*ℤ◌};
-ghost use Rattle.calendar.specs.UnixTime.{offset_in_range, is_reading, instant_of, unix_time, unix_time_answer};
+ghost use Rattle.clock_time.specs.Reading.{answer_of};
+ghost use Rattle.calendar.specs.UnixTime.{offset_in_range, is_reading, instant_of, unix_time};
 
 use crate::{date, time_of_day};
 use clock_time::{ClockTime, Error};
+use gregorian::supported::SupportedDate;
 use gregorian::{FIRST_YEAR, LAST_YEAR};
-
-// Seconds from 1 January 1970 00:00:00 UTC, or the error.
-#[derive(Clone, Copy)]
-pub enum UnixTime {
-    At(i64),
-    Refused(Error),
-}
 
 // True for at most 840 minutes either way.
 pub fn offset_in_range(offset: i16) -> bool
@@ -24,7 +19,7 @@ pub fn offset_in_range(offset: i16) -> bool
 pub fn is_reading(t: ClockTime) -> bool
     ensures { result ≡ is_reading t }
 {
-    if gregorian::is_supported_date(FIRST_YEAR, LAST_YEAR, t.year, t.month, t.day) {
+    if gregorian::is_supported_date(FIRST_YEAR, LAST_YEAR, t.date()) {
         if (1 <= t.weekday) & (t.weekday <= 7) & offset_in_range(t.utc_offset) {
             return time_of_day::time_exists(t.hour, t.minute, t.second, t.utc_offset);
         }
@@ -51,18 +46,18 @@ fn instant_of(t: ClockTime) -> i64
     requires { is_reading t ≡ true }
     ensures { result ≡ instant_of t }
 {
-    let days = date::days_since_epoch(t.year, t.month, t.day);
+    let days = date::days_since_epoch(SupportedDate { date: t.date() });
     let time = 3600 * (t.hour as u64) + 60 * (t.minute as u64) + t.second as u64;
     to_utc(86400 * (days as u64) + time, t.utc_offset)
 }
 
 // The Unix time of a clock time; its flags play no part. Refuses with Unrepresentable (23) if its other fields are
 // those of no valid reading.
-pub fn unix_time(t: ClockTime) -> UnixTime
-    ensures { unix_time_answer result ≡ unix_time t }
+pub fn unix_time(t: ClockTime) -> Result<i64, Error>
+    ensures { answer_of result ≡ unix_time t }
 {
     if is_reading(t) {
-        return UnixTime::At(instant_of(t));
+        return Ok(instant_of(t));
     }
-    UnixTime::Refused(Error::Unrepresentable)
+    Err(Error::Unrepresentable)
 }

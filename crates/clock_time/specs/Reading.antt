@@ -1,10 +1,9 @@
--- What a reader answers.
+-- What a function of the code answers, as the definitions have it.
+use Rattle.std.specs.Prelude.{Result, Ok, Err}
 use Rattle.clock_time.specs.Errors.{Answer, accepted, refused, error_number}
-use Rattle.clock_time.specs.declared.ClockTime.{ClockTime}
-use Rattle.clock_time.specs.declared.ReadAnswer.{ReadAnswer}
-use Rattle.clock_time.specs.declared.ReadAnswer.TheVariants.{Read, Refused}
+use Rattle.clock_time.specs.declared.Error.{Error}
 
--- a reader's answer: a clock time, or a refusal with the error's number
-abbrev pub read_answer : ReadAnswer → Answer ClockTime
-read_answer (Read t) = accepted t
-read_answer (Refused e) = refused (error_number e)
+-- a function's answer: what it gives, or a refusal with the error's number
+abbrev pub answer_of : {A : Type 0} → Result A Error → Answer A
+answer_of (Ok a) = accepted a
+answer_of (Err e) = refused (error_number e)

@@ -2,7 +2,7 @@
 use Rattle.std.specs.Prelude.{ℕ, ◌/◌, ◌%◌, Bool, false, cond, not, ◌&&◌, ◌||◌, List, [], ◌∷◌, ◌++◌, leb, eqb, length, get_or}
 use Rattle.std.specs.Bool.{beq}
 use Rattle.clock_time.specs.Zone.{cet_offset}
-use Rattle.clock_time.specs.Errors.{Answer, accepted, refused, error_number, Check, given, checked}
+use Rattle.clock_time.specs.Errors.{Answer, accepted, refused, Check, given, checked}
 use Rattle.clock_time.specs.Same.{same_time}
 use Rattle.clock_time.specs.Writing.{Written, write_back}
 use Rattle.clock_time.specs.declared.ClockTime.{ClockTime}
@@ -11,8 +11,6 @@ use Rattle.gregorian.specs.Date.{date_exists, full_year, first_year}
 use Rattle.calendar.specs.TimeOfDay.{time_exists}
 use Rattle.dcf77.specs.Marks.{long, short, all_sure, binary, two_digits, is_odd, bits}
 use Rattle.dcf77.specs.declared.MinuteTime.{MinuteTime}
-use Rattle.dcf77.specs.declared.MinuteAnswer.{MinuteAnswer}
-use Rattle.dcf77.specs.declared.MinuteAnswer.TheVariants.{Read, Refused}
 
 -- "15 antenna (PTB now calls it a call bit; here the sources' name stays); 16 change coming; 17, 18 zone: 0 1 offset
 -- 60, 1 0 offset 120 and summer time; 19 leap second coming
@@ -73,11 +71,6 @@ minute_checks m =
 -- "Each number is given when its line holds and no earlier one does, and never otherwise." (01, Refusal numbers)
 unfoldable pub read_minute : List ℕ → Answer MinuteTime
 read_minute m = checked (minute_checks m) (minute_fields m)
-
--- what the code's answer says
-abbrev pub minute_answer : MinuteAnswer → Answer MinuteTime
-minute_answer (Read t) = accepted t
-minute_answer (Refused e) = refused (error_number e)
 
 -- ---- written back
 -- a long mark for what holds, a short one for what does not

@@ -2,7 +2,8 @@
 #![tactic(auto)]
 
 ghost use Rattle.std.specs.Prelude.{◌≡◌};
-ghost use Rattle.dcf77.specs.Minute.{read_minute, minute_answer};
+ghost use Rattle.clock_time.specs.Reading.{answer_of};
+ghost use Rattle.dcf77.specs.Minute.{read_minute};
 
 use clock_time::{ClockTime, Error, MinuteDetail};
 
@@ -16,41 +17,34 @@ pub struct MinuteTime {
     pub detail: MinuteDetail,
 }
 
-// The minute that was read, or the error.
-#[derive(Clone, Copy)]
-pub enum MinuteAnswer {
-    Read(MinuteTime),
-    Refused(Error),
-}
-
 // Reads a run of marks. Refuses with the first that holds of RunLength (11), UnsureMark (12), StartMark (13), ZoneMarks
 // (14), MinuteParity (15), HourParity (16), DateParity (17), DecimalDigit (18), Weekday (7), NoSuchDate (5), NoSuchTime
 // (6) and LeapMinute (19).
-pub fn read_minute(m: &[u8]) -> MinuteAnswer
-    ensures { minute_answer result ≡ read_minute m.now }
+pub fn read_minute(m: &[u8]) -> Result<MinuteTime, Error>
+    ensures { answer_of result ≡ read_minute m.now }
 {
     if !((m.len() == 59) | (m.len() == 60)) {
-        return MinuteAnswer::Refused(Error::RunLength);
+        return Err(Error::RunLength);
     }
     if !marks::all_sure(m) {
-        return MinuteAnswer::Refused(Error::UnsureMark);
+        return Err(Error::UnsureMark);
     }
     let minute = marks::read_eight(m, 21);
     let hour = marks::read_hour(m);
     let date = marks::read_date(m);
     let in_marks = reading::marks_error(m, minute, hour, date);
     if in_marks != 0 {
-        return MinuteAnswer::Refused(reading::error_of(in_marks));
+        return Err(reading::error_of(in_marks));
     }
     let a = reading::fields(m, minute, hour, date);
     let t = a.time;
-    let in_date = reading::date_error(t.weekday, t.year, t.month, t.day);
+    let in_date = reading::date_error(t.weekday, t.date());
     if in_date != 0 {
-        return MinuteAnswer::Refused(reading::error_of(in_date));
+        return Err(reading::error_of(in_date));
     }
     let in_time = reading::time_error(m, t.hour, t.minute);
     if in_time != 0 {
-        return MinuteAnswer::Refused(reading::error_of(in_time));
+        return Err(reading::error_of(in_time));
     }
-    MinuteAnswer::Read(a)
+    Ok(a)
 }

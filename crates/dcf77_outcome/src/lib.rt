@@ -2,20 +2,18 @@
 #![tactic(auto)]
 
 ghost use Rattle.std.specs.Prelude.{◌≡◌, true, ◌+◌, ◌-◌, ◌*◌, ◌/◌, ◌%◌, ◌≤◌, ◌<◌, eqb, pos};
+ghost use Rattle.clock_time.specs.Reading.{answer_of};
 ghost use Rattle.clock_time.specs.Errors.{accepted};
 ghost use Rattle.clock_time.specs.Zone.{cet_offset};
 ghost use Rattle.clock_time.specs.Same.{eq_ℤ};
 ghost use Rattle.gregorian.specs.Date.{supported_date, first_year, last_year};
 ghost use Rattle.calendar.specs.Date.{days_since_epoch};
-ghost use Rattle.calendar.specs.UnixTime.{unix_time_answer};
 ghost use Rattle.dcf77.specs.Minute.{mark};
 ghost use Rattle.dcf77_outcome.specs.Number.{outcome_number, run_number};
 ghost use Rattle.dcf77_outcome.specs.Instant.{is_minute_number, outcome_unix_time};
 
-use calendar::date::DateAnswer;
-use calendar::unix_time::UnixTime;
 use clock_time::Error;
-use dcf77::{MinuteAnswer, MinuteTime};
+use dcf77::MinuteTime;
 
 // Days from 1 January 1970 to a date that exists.
 fn days_to(year: u16, month: u8, day: u8) -> u32
@@ -23,8 +21,8 @@ fn days_to(year: u16, month: u8, day: u8) -> u32
     ensures { result ≡ days_since_epoch year month day }
 {
     match calendar::date::day_number(year, month, day) {
-        DateAnswer::Number(days) => days,
-        DateAnswer::Refused(_) => 0,
+        Ok(days) => days,
+        Err(_) => 0,
     }
 }
 
@@ -79,8 +77,8 @@ pub fn run_number(m: &[u8]) -> u32
     ensures { result ≡ run_number m.now }
 {
     match dcf77::read_minute(m) {
-        MinuteAnswer::Read(a) => number_of(a),
-        MinuteAnswer::Refused(e) => clock_time::error_number(e) as u32,
+        Ok(a) => number_of(a),
+        Err(e) => u8::from(e) as u32,
     }
 }
 
@@ -109,12 +107,12 @@ fn is_minute_number(number: u32) -> bool
 
 // The Unix time that the number of an accepted minute announces. Refuses with Unrepresentable (23) if no accepted
 // minute has the number.
-pub fn outcome_unix_time(number: u32) -> UnixTime
-    ensures { unix_time_answer result ≡ outcome_unix_time number }
+pub fn outcome_unix_time(number: u32) -> Result<i64, Error>
+    ensures { answer_of result ≡ outcome_unix_time number }
 {
     if is_minute_number(number) {
         let offset = offset_in(number);
-        return UnixTime::At(calendar::unix_time::utc_of_minutes((number - 100) / 32, offset));
+        return Ok(calendar::unix_time::utc_of_minutes((number - 100) / 32, offset));
     }
-    UnixTime::Refused(Error::Unrepresentable)
+    Err(Error::Unrepresentable)
 }

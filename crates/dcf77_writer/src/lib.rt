@@ -5,14 +5,13 @@ ghost use Rattle.std.specs.Prelude.{◌≡◌};
 ghost use Rattle.clock_time.specs.Writing.{written};
 ghost use Rattle.dcf77.specs.Minute.{write_minute};
 
-use clock_time::WriteAnswer;
 use dcf77::MinuteTime;
 
 mod writing;
 
 // Writes a minute as a run of marks to the front of `out`. Refuses with Unrepresentable (23) if no run is read as it,
 // then with LentMemory (20) if there is no room.
-pub fn write_minute(a: MinuteTime, out: &mut [u8]) -> WriteAnswer
+pub fn write_minute(a: MinuteTime, out: &mut [u8]) -> Result<usize, Error>
     ensures { written result out.new ≡ write_minute a out.old }
 {
     let marks = writing::sixty_marks(a);

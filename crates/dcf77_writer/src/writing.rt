@@ -8,7 +8,6 @@ ghost use Rattle.dcf77.specs.Marks.{bits};
 ghost use Rattle.dcf77.specs.Writable.{Spells, fields_representable, minute_representable};
 ghost use Rattle.dcf77.specs.Minute.{mark, with_parity, first_marks_of, minute_text, write_minute};
 
-use clock_time::WriteAnswer;
 use dcf77::MinuteTime;
 
 // Marks 15 to 20.
@@ -130,7 +129,7 @@ fn is_representable(a: MinuteTime) -> bool
 }
 
 // Writes the run that is made of a minute, if it is read as that minute.
-pub(crate) fn write_run(a: MinuteTime, run: &[u8], out: &mut [u8]) -> WriteAnswer
+pub(crate) fn write_run(a: MinuteTime, run: &[u8], out: &mut [u8]) -> Result<usize, Error>
     requires { run.now ≡ minute_text a }
     ensures { written result out.new ≡ write_minute a out.old }
 {

@@ -1,7 +1,7 @@
 // The Trimble string: reading, in the library and from C.
 ghost use Rattle.std.specs.Prelude.{[], ◌∷◌, ◌++◌};
+ghost use Rattle.clock_time.specs.Reading.{answer_of};
 ghost use Rattle.clock_time.specs.Called.{called};
-ghost use Rattle.trimble_sv6.specs.Trimble.{trimble_answer};
 ghost use Rattle.trimble_sv6.specs.Accepts.{AcceptsTrimble};
 ghost use Rattle.trimble_sv6.specs.Lines.{trimble_order, trimble_lines};
 ghost use Rattle.c_numbers.specs.Numbers.{trimble_numbers};
@@ -9,11 +9,13 @@ ghost use Rattle.demands.specs.Refusals.{RefusesInOrder, CallRefusesAndKeeps};
 ghost use Rattle.demands.specs.Trimble.{read_trimble_lines};
 ghost use Rattle.demands.specs.Exactly.{ReadsExactly, CallReadsExactly};
 
-use trimble_sv6::TrimbleAnswer;
+use trimble_sv6::TrimbleTime;
+use clock_time::Error;
 
-fn read_trimble(s: &[u8]) -> TrimbleAnswer
-    ensures demand_1 { RefusesInOrder (trimble_lines s.now) trimble_order (trimble_answer result) }
-    ensures demand_2 { ReadsExactly (AcceptsTrimble s.now) (trimble_answer result) }
+
+fn read_trimble(s: &[u8]) -> Result<TrimbleTime, Error>
+    ensures demand_1 { RefusesInOrder (trimble_lines s.now) trimble_order (answer_of result) }
+    ensures demand_2 { ReadsExactly (AcceptsTrimble s.now) (answer_of result) }
 {
     trimble_sv6::read_trimble(s)
 }

@@ -2,12 +2,12 @@
 #![tactic(auto)]
 
 ghost use Rattle.std.specs.Prelude.{◌≡◌, true, false, length};
+ghost use Rattle.clock_time.specs.Reading.{answer_of};
 ghost use Rattle.clock_time.specs.Errors.{error_number};
-ghost use Rattle.clock_time.specs.Reading.{read_answer};
 ghost use Rattle.layout.specs.Layout.{FitsLayout, fits_from, layout_error};
 ghost use Rattle.elv_dcf7000.specs.Elv.{elv_layout, elv_flag_fault, elv_offset, sent_fields, read_elv};
 
-use clock_time::{ClockTime, Error, ReadAnswer};
+use clock_time::{ClockTime, Error};
 use gregorian::FIRST_YEAR;
 
 // The layout as a pattern, as the definition `elv_layout` has it.
@@ -73,25 +73,25 @@ fn sent_fields(s: &[u8]) -> ClockTime
 }
 
 // Reads a string that fits its layout.
-fn read_fitting(s: &[u8]) -> ReadAnswer
+fn read_fitting(s: &[u8]) -> Result<ClockTime, Error>
     requires { (length s.now ≡ 21) × FitsLayout elv_layout s.now }
-    ensures { read_answer result ≡ read_elv s.now }
+    ensures { answer_of result ≡ read_elv s.now }
 {
     if has_flag_fault(s) {
-        return ReadAnswer::Refused(Error::FlagLetter);
+        return Err(Error::FlagLetter);
     }
     layout::check_without_weekday(sent_fields(s))
 }
 
 // Reads an ELV DCF7000 string. Refuses with the first that holds of Length (1), FixedByte (2), NotDigit (3), FlagLetter
 // (4), NoSuchDate (5) and NoSuchTime (6).
-pub fn read_elv(s: &[u8]) -> ReadAnswer
-    ensures { read_answer result ≡ read_elv s.now }
+pub fn read_elv(s: &[u8]) -> Result<ClockTime, Error>
+    ensures { answer_of result ≡ read_elv s.now }
 {
     if s.len() == 21 {
         if fits(s) {
             return read_fitting(s);
         }
     }
-    ReadAnswer::Refused(first_error(&s[..]))
+    Err(first_error(&s[..]))
 }

@@ -5,7 +5,7 @@ ghost use Rattle.std.specs.Prelude.{◌≡◌};
 ghost use Rattle.clock_time.specs.Writing.{written};
 ghost use Rattle.elv_dcf7000.specs.Elv.{flag_sum, text_with, elv_text, elv_representable, write_elv};
 
-use clock_time::{ClockTime, WriteAnswer};
+use clock_time::{ClockTime, Error};
 
 fn flag_sum(summer: bool, change: bool, unsynchronised: bool) -> u8
     ensures { result ≡ flag_sum summer change unsynchronised }
@@ -62,7 +62,7 @@ fn is_representable(t: ClockTime) -> bool
 
 // Writes a clock time as an ELV DCF7000 string to the front of `out`. Refuses with Unrepresentable (23) if no such
 // string is read as it, then with LentMemory (20) if there is no room for 21 bytes.
-pub fn write_elv(t: ClockTime, out: &mut [u8]) -> WriteAnswer
+pub fn write_elv(t: ClockTime, out: &mut [u8]) -> Result<usize, Error>
     ensures { written result out.new ≡ write_elv t out.old }
 {
     let line = text_of(t);

@@ -10,8 +10,6 @@ use Rattle.meinberg_gps.specs.declared.GpsTime.{GpsTime}
 use Rattle.dcf77.specs.Minute.{read_minute}
 use Rattle.dcf77_outcome.specs.Number.{run_number}
 use Rattle.dcf77.specs.declared.MinuteTime.{MinuteTime}
-use Rattle.recording.specs.declared.FillAnswer.{FillAnswer}
-use Rattle.recording.specs.declared.CorrectAnswer.{CorrectAnswer}
 use Rattle.recording.specs.Recording.{filling, fill_outcomes, correction, correct_mark}
 
 -- ---- what an example says

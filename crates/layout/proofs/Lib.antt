@@ -1,4 +1,5 @@
 -- Laws of the definitions, and the main results.
+pub mod ClockLaws
 pub mod LayoutLaws
 pub mod PartLaws
 pub mod PictureLaws

@@ -3,14 +3,14 @@
 #![tactic(auto)]
 
 ghost use Rattle.std.specs.Prelude.{◌≡◌, length, cond, false};
+ghost use Rattle.clock_time.specs.Reading.{answer_of};
 ghost use Rattle.clock_time.specs.Errors.{error_number, checked};
-ghost use Rattle.clock_time.specs.Reading.{read_answer};
 ghost use Rattle.layout.specs.Layout.{sample_place, pattern_place, patterned, allowed, error_at, offence, first};
 ghost use Rattle.layout.specs.Layout.{layout_error};
 ghost use Rattle.layout.specs.Text.{supported_day, clock_checks, clock_digits};
 ghost use Rattle.calendar.specs.Date.{with_weekday};
 
-use clock_time::{ClockTime, Error, ReadAnswer};
+use clock_time::{ClockTime, Error};
 use gregorian::{FIRST_YEAR, LAST_YEAR};
 
 // The place of a byte from 32 to 126.
@@ -150,33 +150,33 @@ pub fn layout_error(pattern: &[u8], s: &[u8]) -> Error
 
 // The clock time. Refuses with the first that holds of NoSuchDate (5), NoSuchTime (6) and Weekday (7); `mismatch` is a
 // further reason for NoSuchTime.
-pub fn check_clock(t: ClockTime, mismatch: bool) -> ReadAnswer
-    ensures { read_answer result ≡ checked (clock_checks (supported_day t) t mismatch) t }
+pub fn check_clock(t: ClockTime, mismatch: bool) -> Result<ClockTime, Error>
+    ensures { answer_of result ≡ checked (clock_checks (supported_day t) t mismatch) t }
 {
-    if !gregorian::is_supported_date(FIRST_YEAR, LAST_YEAR, t.year, t.month, t.day) {
-        return ReadAnswer::Refused(Error::NoSuchDate);
+    if !gregorian::is_supported_date(FIRST_YEAR, LAST_YEAR, t.date()) {
+        return Err(Error::NoSuchDate);
     }
     if !calendar::time_of_day::time_exists(t.hour, t.minute, t.second, t.utc_offset) | mismatch {
-        return ReadAnswer::Refused(Error::NoSuchTime);
+        return Err(Error::NoSuchTime);
     }
     if (1 <= t.weekday) & (t.weekday <= 7) {
-        return ReadAnswer::Read(t);
+        return Ok(t);
     }
-    ReadAnswer::Refused(Error::Weekday)
+    Err(Error::Weekday)
 }
 
 // The clock time with the weekday of its date, for a format that sends none. Refuses with NoSuchDate (5) if the date is
 // not one of 1970 to 2069, then with NoSuchTime (6).
-pub fn check_without_weekday(t: ClockTime) -> ReadAnswer
-    ensures { read_answer result ≡ checked (clock_checks (supported_day t) (with_weekday t) false) (with_weekday t) }
+pub fn check_without_weekday(t: ClockTime) -> Result<ClockTime, Error>
+    ensures { answer_of result ≡ checked (clock_checks (supported_day t) (with_weekday t) false) (with_weekday t) }
 {
-    if !gregorian::is_supported_date(FIRST_YEAR, LAST_YEAR, t.year, t.month, t.day) {
-        return ReadAnswer::Refused(Error::NoSuchDate);
+    if !gregorian::is_supported_date(FIRST_YEAR, LAST_YEAR, t.date()) {
+        return Err(Error::NoSuchDate);
     }
     if !calendar::time_of_day::time_exists(t.hour, t.minute, t.second, t.utc_offset) {
-        return ReadAnswer::Refused(Error::NoSuchTime);
+        return Err(Error::NoSuchTime);
     }
-    ReadAnswer::Read(calendar::date::with_weekday(t))
+    Ok(calendar::date::with_weekday(t))
 }
 
 // The letter if `on`, else a blank.

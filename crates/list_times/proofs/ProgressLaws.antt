@@ -7,7 +7,6 @@ use mathlib.Core.List.{List, ◌++◌}
 use lib.ListN.{length, take, drop, length-append, length-drop}
 use lib.Seq.{take_all, take-add, take-append_seam}
 use Rattle.clock_time.specs.Writing.{Written, written, writing}
-use Rattle.clock_time.specs.declared.WriteAnswer.TheVariants as answers
 use Rattle.clock_time.proofs.WritingLaws.{writing_accepted}
 use Rattle.framing.proofs.FeedLaws.{rest}
 use Rattle.listing.specs.Listing.{after}

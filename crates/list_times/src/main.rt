@@ -11,7 +11,6 @@ ghost use Rattle.listing_lines.specs.Totals.{totals_line};
 ghost use Rattle.listing.specs.Listing.{text_of};
 ghost use Rattle.list_times.specs.Progress.{IsPrefixLen, StartsWith, Takes, ListsAll, Reaches};
 
-use clock_time::WriteAnswer;
 use listing::Listing;
 use request::Request;
 use std::env::FillError;
@@ -148,8 +147,8 @@ fn write_totals(rt: &HostRuntime, end: Listing) -> bool {
     let totals = end.totals;
     let mut text = [0u8; 86];
     match listing_lines::write_totals(totals, &mut text) {
-        WriteAnswer::Written(n) => write_last(rt, end, &text, n),
-        WriteAnswer::Refused(_) => false,
+        Ok(n) => write_last(rt, end, &text, n),
+        Err(_) => false,
     }
 }
 

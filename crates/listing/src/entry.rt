@@ -1,13 +1,13 @@
 // What is listed of a string.
 ghost use Rattle.std.specs.Prelude.{◌≡◌, ◌<◌};
+ghost use Rattle.clock_time.specs.Reading.{answer_of};
 ghost use Rattle.clock_time.specs.Errors.{refused};
-ghost use Rattle.time_string.specs.Kind.{time_answer};
 ghost use Rattle.listing.specs.Items.{clock_answer, read_string, string, item_of, Within, entry_item, Shows, counted};
 
+use time_string::Reading;
 use clock_time::{ClockTime, Error};
 use framing::Event;
 use listing_lines::Totals;
-use time_string::{KindAnswer, TimeAnswer};
 
 // What an event of the feed brings to the listing.
 #[derive(Clone, Copy)]
@@ -25,16 +25,16 @@ pub(crate) struct TextLine {
     pub(crate) length: usize,
 }
 
-fn entry_of(answer: TimeAnswer) -> Entry
-    ensures { entry_item result ≡ string (clock_answer (time_answer answer)) }
+fn entry_of(answer: Result<Reading, Error>) -> Entry
+    ensures { entry_item result ≡ string (clock_answer (answer_of answer)) }
 {
     match answer {
-        TimeAnswer::Read(t) => Entry::Read(t),
-        TimeAnswer::ReadWithPosition(g) => {
+        Ok(Reading::Time(t)) => Entry::Read(t),
+        Ok(Reading::TimeAndPosition(g)) => {
             let t = g.time;
             Entry::Read(t)
         }
-        TimeAnswer::Refused(e) => Entry::Refused(e),
+        Err(e) => Entry::Refused(e),
     }
 }
 
@@ -43,8 +43,8 @@ fn read_string(s: &[u8]) -> Entry
     ensures { entry_item result ≡ string (read_string s.now) }
 {
     match time_string::kind_of(s) {
-        KindAnswer::Kind(kind) => entry_of(time_string::read(kind, s)),
-        KindAnswer::Refused(e) => Entry::Refused(e),
+        Ok(kind) => entry_of(time_string::read(kind, s)),
+        Err(e) => Entry::Refused(e),
     }
 }
 
@@ -113,7 +113,7 @@ pub(crate) fn entry_line(entry: Entry) -> TextLine
             text: listing_lines::line::time_line(t),
             length: 35,
         },
-        Entry::Refused(e) => refused_line(clock_time::error_number(e)),
+        Entry::Refused(e) => refused_line(u8::from(e)),
         Entry::Dropped => TextLine {
             text: *b"dropped\n\0\0\0\0\0\0\0\0\0\0\0\0\0\0\0\0\0\0\0\0\0\0\0\0\0\0\0",
             length: 8,

@@ -6,7 +6,7 @@ ghost use Rattle.clock_time.specs.Writing.{written};
 ghost use Rattle.listing_lines.specs.Line.{write_line};
 ghost use Rattle.listing_lines.specs.Totals.{write_totals};
 
-use clock_time::{ClockTime, WriteAnswer};
+use clock_time::{ClockTime, Error};
 
 mod last_line;
 pub mod line;
@@ -21,7 +21,7 @@ pub struct Totals {
 
 // Writes the line of a clock time, its line feed included, to the front of `out`. Refuses with Unrepresentable (23) if
 // its fields are no valid reading, then with LentMemory (20) if there is no room for 35 bytes.
-pub fn write_line(t: ClockTime, out: &mut [u8]) -> WriteAnswer
+pub fn write_line(t: ClockTime, out: &mut [u8]) -> Result<usize, Error>
     ensures { written result out.new ≡ write_line t out.old }
 {
     let text = line::time_line(t);
@@ -30,7 +30,7 @@ pub fn write_line(t: ClockTime, out: &mut [u8]) -> WriteAnswer
 
 // Writes the line of the totals, its line feed included, to the front of `out`. Refuses with LentMemory (20) if there
 // is no room.
-pub fn write_totals(t: Totals, out: &mut [u8]) -> WriteAnswer
+pub fn write_totals(t: Totals, out: &mut [u8]) -> Result<usize, Error>
     ensures { written result out.new ≡ write_totals t out.old }
 {
     let line = last_line::totals_line(t);

@@ -2,7 +2,7 @@
 use Rattle.std.specs.Prelude.{ℕ, ◌+◌, ◌*◌, Bool, false, not, ◌&&◌, List, [], ◌∷◌, ◌++◌, leb, eqb, get_or, ℤ}
 use Prim.Native.Char.{code}
 use Rattle.std.specs.Bool.{beq}
-use Rattle.clock_time.specs.Errors.{Answer, accepted, refused, error_number, given, checked}
+use Rattle.clock_time.specs.Errors.{Answer, accepted, refused, given, checked}
 use Rattle.clock_time.specs.Same.{same_time, same_position}
 use Rattle.clock_time.specs.Writing.{Written}
 use Rattle.clock_time.specs.declared.ClockTime.{ClockTime}
@@ -16,8 +16,6 @@ use Rattle.signed.specs.Offset.{offset_text}
 use Rattle.meinberg_gps_position.specs.Position.{position_fault, position_of, position_text}
 use Rattle.meinberg_pzf.specs.Pzf.{pzf_text}
 use Rattle.meinberg_gps.specs.declared.GpsTime.{GpsTime}
-use Rattle.meinberg_gps.specs.declared.GpsAnswer.{GpsAnswer}
-use Rattle.meinberg_gps.specs.declared.GpsAnswer.TheVariants.{Read, Refused}
 
 -- "As PZF up to place 22; blank at 23; sign at 24; offset digits at 25, 26, 28, 29 with `:` at 27; `;` 30; blank 31;
 -- flags uvxyzab at 32..38; `;` 39; blank 40; latitude 41..48; blank 49; longitude 50..58; blank 59; height 60..63; `m`
@@ -111,7 +109,3 @@ read_gps s = read_text gps s
 unfoldable pub write_gps : GpsTime → List ℕ → Written
 write_gps g buffer = write_text written_gps g buffer
 
--- the function's answer: what was read, or a refusal with the error's number
-abbrev pub gps_answer : GpsAnswer → Answer GpsTime
-gps_answer (Read g) = accepted g
-gps_answer (Refused e) = refused (error_number e)

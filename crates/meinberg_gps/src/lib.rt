@@ -2,12 +2,12 @@
 #![tactic(auto)]
 
 ghost use Rattle.std.specs.Prelude.{◌≡◌, length};
+ghost use Rattle.clock_time.specs.Reading.{answer_of};
 ghost use Rattle.layout.specs.Layout.{FitsLayout};
-ghost use Rattle.meinberg_gps.specs.Gps.{gps_layout, leap_mismatch, clock_of, read_clock, read_gps, gps_answer};
+ghost use Rattle.meinberg_gps.specs.Gps.{gps_layout, leap_mismatch, clock_of, read_clock, read_gps};
 
-use clock_time::{ClockTime, Error, Position, ReadAnswer};
+use clock_time::{ClockTime, Error, Position};
 use gregorian::FIRST_YEAR;
-use meinberg_gps_position::PositionAnswer;
 
 mod offset;
 mod places;
@@ -17,13 +17,6 @@ mod places;
 pub struct GpsTime {
     pub time: ClockTime,
     pub position: Position,
-}
-
-// What was read, or the error.
-#[derive(Clone, Copy)]
-pub enum GpsAnswer {
-    Read(GpsTime),
-    Refused(Error),
 }
 
 fn fields(s: &[u8]) -> ClockTime
@@ -61,43 +54,36 @@ fn mismatch(s: &[u8]) -> bool
 
 // Reads the clock time of a string whose offset and `position` hold. Refuses with the first that holds of NoSuchDate
 // (5), NoSuchTime (6) and Weekday (7).
-fn read_clock(s: &[u8], position: Position) -> GpsAnswer
+fn read_clock(s: &[u8], position: Position) -> Result<GpsTime, Error>
     requires { (length s.now ≡ 66) × FitsLayout gps_layout s.now }
-    ensures { gps_answer result ≡ read_clock s.now position }
+    ensures { answer_of result ≡ read_clock s.now position }
 {
-    match layout::check_clock(fields(s), mismatch(s)) {
-        ReadAnswer::Read(time) => GpsAnswer::Read(GpsTime {
-            time: time,
-            position: position,
-        }),
-        ReadAnswer::Refused(e) => GpsAnswer::Refused(e),
-    }
+    let time = layout::check_clock(fields(s), mismatch(s))?;
+    Ok(GpsTime { time, position })
 }
 
 // Reads a string that fits its layout.
-fn read_fitting(s: &[u8]) -> GpsAnswer
+fn read_fitting(s: &[u8]) -> Result<GpsTime, Error>
     requires { (length s.now ≡ 66) × FitsLayout gps_layout s.now }
-    ensures { gps_answer result ≡ read_gps s.now }
+    ensures { answer_of result ≡ read_gps s.now }
 {
     if offset::is_faulty(s) {
-        return GpsAnswer::Refused(Error::UtcOffset);
+        return Err(Error::UtcOffset);
     }
-    match meinberg_gps_position::read_position(s) {
-        PositionAnswer::Read(p) => read_clock(s, p),
-        PositionAnswer::Refused(e) => GpsAnswer::Refused(e),
-    }
+    let position = meinberg_gps_position::read_position(s)?;
+    read_clock(s, position)
 }
 
 // Reads a Meinberg GPS string: the clock time and the position. Refuses with the first that holds of Length (1),
 // FixedByte (2), NotDigit (3), FlagLetter (4), UtcOffset (8), Position (9), NoSuchDate (5), NoSuchTime (6) and Weekday
 // (7).
-pub fn read_gps(s: &[u8]) -> GpsAnswer
-    ensures { gps_answer result ≡ read_gps s.now }
+pub fn read_gps(s: &[u8]) -> Result<GpsTime, Error>
+    ensures { answer_of result ≡ read_gps s.now }
 {
     if s.len() == 66 {
         if places::fits(s) {
             return read_fitting(s);
         }
     }
-    GpsAnswer::Refused(places::first_error(&s[..]))
+    Err(places::first_error(&s[..]))
 }

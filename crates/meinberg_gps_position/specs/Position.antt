@@ -1,15 +1,13 @@
 -- The position of a GPS string: two angles and a height.
 use Rattle.std.specs.Prelude.{ℕ, ◌+◌, ◌/◌, Bool, not, ◌&&◌, List, [], ◌∷◌, ◌++◌, leb, eqb, get_or, ℤ, nat_abs}
 use Prim.Native.Char.{Char, code}
-use Rattle.clock_time.specs.Errors.{Answer, accepted, refused, error_number, given, checked}
+use Rattle.clock_time.specs.Errors.{Answer, accepted, refused, given, checked}
 use Rattle.clock_time.specs.declared.Position.{Position}
 use Rattle.clock_time.specs.Lists.{ascii, slice}
 use Rattle.decimal.specs.Decimal.{value, digits}
 use Rattle.layout.specs.Layout.{number}
 use Rattle.signed.specs.Signed.{signed, sign_holds, sign_byte}
 use Rattle.meinberg_gps_position.specs.Aligned.{are_digits, right_aligned, aligned}
-use Rattle.meinberg_gps_position.specs.declared.PositionAnswer.{PositionAnswer}
-use Rattle.meinberg_gps_position.specs.declared.PositionAnswer.TheVariants.{Read, Refused}
 
 -- one of the two angles: its first place, how many places come before the point, its letters from zero on and below
 -- zero, and the most that it may be
@@ -110,8 +108,3 @@ position_representable p =
     leb (nat_abs p.latitude) latitude.limit
     && leb (nat_abs p.longitude) longitude.limit
     && leb p.height 9999
-
--- the function's answer: a position, or a refusal with the error's number
-abbrev pub position_answer : PositionAnswer → Answer Position
-position_answer (Read p) = accepted p
-position_answer (Refused e) = refused (error_number e)

@@ -2,24 +2,17 @@
 #![tactic(auto)]
 
 ghost use Rattle.std.specs.Prelude.{◌≡◌, true, ◌&&◌, [], ◌∷◌, ◌≤◌, length};
+ghost use Rattle.clock_time.specs.Reading.{answer_of};
 ghost use Rattle.layout.specs.Layout.{number};
 ghost use Rattle.decimal.specs.Decimal.{value};
 ghost use Rattle.meinberg_gps_position.specs.Aligned.{are_digits, right_aligned, digits_or_blanks};
 ghost use Rattle.meinberg_gps_position.specs.Position.{position_digits, position_from, read_position};
-ghost use Rattle.meinberg_gps_position.specs.Position.{position_answer};
 ghost use Rattle.meinberg_gps_position.specs.Position.{position_text, position_representable};
 
 use clock_time::{Error, Position};
 
 mod digits;
 mod text;
-
-// The position that was read, or the error.
-#[derive(Clone, Copy)]
-pub enum PositionAnswer {
-    Read(Position),
-    Refused(Error),
-}
 
 // Whether the digits and blanks of an angle stand where they must: three places before the point, four after it.
 fn angle_digits(a: u8, b: u8, c: u8, d: u8, e: u8, f: u8, g: u8) -> bool
@@ -62,25 +55,25 @@ fn position_from(
     longitude_letter: u8,
     lon: u32,
     height: u16,
-) -> PositionAnswer
-    ensures { position_answer result ≡ position_from latitude_letter lat longitude_letter lon height }
+) -> Result<Position, Error>
+    ensures { answer_of result ≡ position_from latitude_letter lat longitude_letter lon height }
 {
     let latitude_holds = signed::sign_holds(b'N', b'S', 900000, latitude_letter, lat);
     let longitude_holds = signed::sign_holds(b'E', b'W', 1800000, longitude_letter, lon);
     if latitude_holds & longitude_holds {
-        return PositionAnswer::Read(Position {
+        return Ok(Position {
             latitude: signed::with_sign(latitude_letter == b'S', lat) as i32,
             longitude: signed::with_sign(longitude_letter == b'W', lon) as i32,
             height: height,
         });
     }
-    PositionAnswer::Refused(Error::Position)
+    Err(Error::Position)
 }
 
 // The position of a string whose digits and blanks stand where they must. Refuses with Position (9) if it is none.
-fn read_digits(s: &[u8]) -> PositionAnswer
+fn read_digits(s: &[u8]) -> Result<Position, Error>
     requires { (64 ≤ length s.now) × (position_digits s.now ≡ true) }
-    ensures { position_answer result ≡ read_position s.now }
+    ensures { answer_of result ≡ read_position s.now }
 {
     let latitude = angle_magnitude(b' ', s[41], s[42], s[44], s[45], s[46], s[47]);
     let longitude = angle_magnitude(s[50], s[51], s[52], s[54], s[55], s[56], s[57]);
@@ -88,16 +81,16 @@ fn read_digits(s: &[u8]) -> PositionAnswer
 }
 
 // Reads the position of a GPS string; the string's other places play no part. Refuses with Position (9) if it is none.
-pub fn read_position(s: &[u8]) -> PositionAnswer
-    ensures { position_answer result ≡ read_position s.now }
+pub fn read_position(s: &[u8]) -> Result<Position, Error>
+    ensures { answer_of result ≡ read_position s.now }
 {
     if s.len() < 64 {
-        return PositionAnswer::Refused(Error::Position);
+        return Err(Error::Position);
     }
     if digits_hold(s) {
         return read_digits(s);
     }
-    PositionAnswer::Refused(Error::Position)
+    Err(Error::Position)
 }
 
 // Latitude, a blank, longitude, a blank, height.

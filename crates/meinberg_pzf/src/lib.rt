@@ -2,12 +2,12 @@
 #![tactic(auto)]
 
 ghost use Rattle.std.specs.Prelude.{◌≡◌, true, length};
+ghost use Rattle.clock_time.specs.Reading.{answer_of};
 ghost use Rattle.clock_time.specs.Errors.{error_number};
-ghost use Rattle.clock_time.specs.Reading.{read_answer};
 ghost use Rattle.layout.specs.Layout.{FitsLayout, fits_from, layout_error};
 ghost use Rattle.meinberg_pzf.specs.Pzf.{pzf_layout, pzf_offset, pzf_fields, read_pzf};
 
-use clock_time::{ClockTime, Error, ReadAnswer};
+use clock_time::{ClockTime, Error};
 use gregorian::FIRST_YEAR;
 
 // The layout as a pattern, as the definition `pzf_layout` has it.
@@ -72,13 +72,13 @@ fn fields(s: &[u8]) -> ClockTime
 
 // Reads a Meinberg PZF string. Refuses with the first that holds of Length (1), FixedByte (2), NotDigit (3), FlagLetter
 // (4), NoSuchDate (5), NoSuchTime (6) and Weekday (7).
-pub fn read_pzf(s: &[u8]) -> ReadAnswer
-    ensures { read_answer result ≡ read_pzf s.now }
+pub fn read_pzf(s: &[u8]) -> Result<ClockTime, Error>
+    ensures { answer_of result ≡ read_pzf s.now }
 {
     if s.len() == 32 {
         if fits(s) {
             return layout::check_clock(fields(s), false);
         }
     }
-    ReadAnswer::Refused(first_error(&s[..]))
+    Err(first_error(&s[..]))
 }

@@ -5,7 +5,7 @@ ghost use Rattle.std.specs.Prelude.{◌≡◌};
 ghost use Rattle.clock_time.specs.Writing.{written};
 ghost use Rattle.meinberg_pzf.specs.Pzf.{text_with, pzf_text, pzf_representable, write_pzf};
 
-use clock_time::{ClockTime, WriteAnswer};
+use clock_time::{ClockTime, Error};
 
 // The layout with the fields of `t` and the seven flag letters in it.
 fn text_with(t: ClockTime, utc: u8, u: u8, v: u8, x: u8, y: u8, z: u8, a: u8) -> [u8; 32]
@@ -75,7 +75,7 @@ fn is_representable(t: ClockTime) -> bool
 
 // Writes a clock time as a Meinberg PZF string to the front of `out`. Refuses with Unrepresentable (23) if no such
 // string is read as it, then with LentMemory (20) if there is no room for 32 bytes.
-pub fn write_pzf(t: ClockTime, out: &mut [u8]) -> WriteAnswer
+pub fn write_pzf(t: ClockTime, out: &mut [u8]) -> Result<usize, Error>
     ensures { written result out.new ≡ write_pzf t out.old }
 {
     let line = text_of(t);

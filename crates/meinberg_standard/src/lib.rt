@@ -2,12 +2,12 @@
 #![tactic(auto)]
 
 ghost use Rattle.std.specs.Prelude.{◌≡◌, true, length};
+ghost use Rattle.clock_time.specs.Reading.{answer_of};
 ghost use Rattle.clock_time.specs.Errors.{error_number};
-ghost use Rattle.clock_time.specs.Reading.{read_answer};
 ghost use Rattle.layout.specs.Layout.{FitsLayout, fits_from, layout_error};
 ghost use Rattle.meinberg_standard.specs.Standard.{standard_layout, standard_zone, standard_fields, read_standard};
 
-use clock_time::{ClockTime, Error, ReadAnswer};
+use clock_time::{ClockTime, Error};
 use gregorian::FIRST_YEAR;
 
 // The layout as a pattern, as the definition `standard_layout` has it.
@@ -79,13 +79,13 @@ fn fields(s: &[u8]) -> ClockTime
 
 // Reads a Meinberg standard string. Refuses with the first that holds of Length (1), FixedByte (2), NotDigit (3),
 // FlagLetter (4), NoSuchDate (5), NoSuchTime (6) and Weekday (7).
-pub fn read_standard(s: &[u8]) -> ReadAnswer
-    ensures { read_answer result ≡ read_standard s.now }
+pub fn read_standard(s: &[u8]) -> Result<ClockTime, Error>
+    ensures { answer_of result ≡ read_standard s.now }
 {
     if s.len() == 32 {
         if fits(s) {
             return layout::check_clock(fields(s), false);
         }
     }
-    ReadAnswer::Refused(first_error(&s[..]))
+    Err(first_error(&s[..]))
 }

@@ -6,7 +6,7 @@ ghost use Rattle.clock_time.specs.Writing.{written};
 ghost use Rattle.meinberg_standard.specs.Standard.{zone_letter, announced_letter, text_with, standard_text};
 ghost use Rattle.meinberg_standard.specs.Standard.{standard_representable, write_standard};
 
-use clock_time::{ClockTime, WriteAnswer};
+use clock_time::{ClockTime, Error};
 
 fn zone_letter(offset: i16, summer: bool) -> u8
     ensures { result ≡ zone_letter offset summer }
@@ -92,7 +92,7 @@ fn is_representable(t: ClockTime) -> bool
 
 // Writes a clock time as a Meinberg standard string to the front of `out`. Refuses with Unrepresentable (23) if no such
 // string is read as it, then with LentMemory (20) if there is no room for 32 bytes.
-pub fn write_standard(t: ClockTime, out: &mut [u8]) -> WriteAnswer
+pub fn write_standard(t: ClockTime, out: &mut [u8]) -> Result<usize, Error>
     ensures { written result out.new ≡ write_standard t out.old }
 {
     let line = text_of(t);

@@ -15,7 +15,6 @@ use Rattle.recording.specs.Outcomes.{differences}
 use Rattle.recording.specs.Rule.{reached}
 use Rattle.recording.specs.Recording.{rule, Recorded, recorded, correction, correction_checks, updated}
 use Rattle.recording.specs.Recording.{correct_mark}
-use Rattle.recording.specs.declared.CorrectAnswer.{CorrectAnswer}
 use Rattle.recording.specs.SheetNumber.{SheetNumber}
 use Rattle.recording.specs.Demand.{Corrected}
 use Rattle.recording.proofs.GapLaws.{after_in, after_is_first, first_is_after}

@@ -13,8 +13,6 @@ use Rattle.clock_time.specs.Exit.{Exit}
 use Rattle.clock_time.specs.declared.Error.{Error}
 use Rattle.clock_time.proofs.ErrorLaws.{accepted_passes}
 use Rattle.clock_time.proofs.ExitLaws.{leaves_accepted, leaves_refused}
-use Rattle.recording.specs.declared.FillAnswer.{FillAnswer}
-use Rattle.recording.specs.declared.CorrectAnswer.{CorrectAnswer}
 use Rattle.recording.specs.Gaps.{gap_after}
 use Rattle.recording.specs.Outcomes.{Right, numbers, differ, differences}
 use Rattle.recording.specs.Rule.{reached}

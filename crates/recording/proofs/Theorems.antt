@@ -7,8 +7,6 @@ use mathlib.Core.List.{List}
 use lib.ListN.{length, get_or, set}
 use Rattle.clock_time.specs.Errors.{accepted}
 use Rattle.clock_time.specs.declared.Error.{Error}
-use Rattle.recording.specs.declared.FillAnswer.{FillAnswer}
-use Rattle.recording.specs.declared.CorrectAnswer.{CorrectAnswer}
 use Rattle.recording.specs.Gaps.{FirstGapAfter}
 use Rattle.recording.specs.Outcomes.{numbers, differences}
 use Rattle.recording.specs.Recording.{rule, outcome_at, filling, fill_outcomes, correction, correct_mark}

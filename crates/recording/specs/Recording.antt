@@ -1,23 +1,15 @@
 -- What the crate's functions answer, and leave of the memory lent to them.
 use Rattle.std.specs.Prelude.{ℕ, Bool, not, ◌||◌, List, [], ◌∷◌, eqb, leb, ltb, length, set}
-use Rattle.clock_time.specs.Errors.{Answer, accepted, refused, error_number, Check, given, checked}
+use Rattle.clock_time.specs.Errors.{Answer, accepted, refused, Check, given, checked}
 use Rattle.clock_time.specs.Exit.{Exit, exit, leaves}
 use Rattle.dcf77_outcome.specs.Number.{run_number}
 use Rattle.recording.specs.Outcomes.{numbers, mended, differences}
 use Rattle.recording.specs.Rule.{rule_by, reached}
-use Rattle.recording.specs.declared.OutcomeAnswer.{OutcomeAnswer}
-use Rattle.recording.specs.declared.FillAnswer.{FillAnswer}
-use Rattle.recording.specs.declared.CorrectAnswer.{CorrectAnswer}
 
 -- ---- the number at a place
 -- "Sheet number: 0 where there is no gap; at a gap the refusal number; or, accepted, 100 + [..]" (01, Tape and sheet)
 abbrev pub rule : List ℕ → ℕ → ℕ
 rule marks place = rule_by run_number marks place
-
--- the function's answer: a number, or a refusal with the error's number
-abbrev pub outcome_answer : OutcomeAnswer → Answer ℕ
-outcome_answer (OutcomeAnswer.Number n) = accepted n
-outcome_answer (OutcomeAnswer.Refused e) = refused (error_number e)
 
 -- 20: "lent memory: [..] tape over 100,000"; 21: "place at or past the tape's end" (01, Refusal numbers)
 unfoldable pub outcome_at : List ℕ → ℕ → Answer ℕ
@@ -28,15 +20,9 @@ outcome_at marks place =
 abbrev pub unfit : ℕ → ℕ → Bool
 unfit marks outcomes = not (eqb marks outcomes) || ltb 100000 marks
 
--- ---- the number at every place
--- the function's answer: filled, or a refusal with the error's number
-abbrev pub fill_answer : FillAnswer → Answer (Unit {0})
-fill_answer FillAnswer.Filled = accepted tt
-fill_answer (FillAnswer.Refused e) = refused (error_number e)
-
 -- the answer, with the outcomes at exit
 abbrev pub filling : FillAnswer → List ℕ → Exit (Unit {0}) (List ℕ)
-filling r outcomes = exit (fill_answer r) outcomes
+filling r outcomes = exit (answer_of r) outcomes
 
 -- the outcomes that are right: "the two are equally long and every place holds the number that this rule gives there"
 -- (01, Tape and sheet); "The tape may be empty." (01, Tape and sheet)
@@ -55,14 +41,9 @@ pub record Recorded : Type 0 where
 abbrev pub recorded : List ℕ → List ℕ → Recorded
 recorded marks outcomes = record { marks = marks; outcomes = outcomes }
 
--- the function's answer: the count, or a refusal with the error's number
-abbrev pub correct_answer : CorrectAnswer → Answer ℕ
-correct_answer (CorrectAnswer.Corrected n) = accepted n
-correct_answer (CorrectAnswer.Refused e) = refused (error_number e)
-
 -- the answer, with the marks and the outcomes at exit
 abbrev pub correction : CorrectAnswer → List ℕ → List ℕ → Exit ℕ Recorded
-correction r marks outcomes = exit (correct_answer r) (recorded marks outcomes)
+correction r marks outcomes = exit (answer_of r) (recorded marks outcomes)
 
 -- "For a correction: 20, 21, 22."; 21: "place at or past the tape's end"; 22: "new mark above 3" (01, Refusal numbers)
 abbrev pub correction_checks : List ℕ → List ℕ → ℕ → ℕ → List Check

@@ -26,7 +26,7 @@ fn number_at_gap(marks: &[u8], place: usize, last: Gap) -> u32
 {
     match last {
         Gap::At(earlier) => number_between(marks, earlier, place),
-        Gap::Nothing => clock_time::error_number(Error::NoEarlierGap) as u32,
+        Gap::Nothing => u8::from(Error::NoEarlierGap) as u32,
     }
 }
 

@@ -1,16 +1,12 @@
 -- Telling, naming and reading by kind, as the rows have it.
 use Rattle.std.specs.Prelude.{ℕ, Bool, true, cond, not, ◌&&◌, List, [], ◌∷◌, eqb, leb, length, get_or}
-use Rattle.clock_time.specs.Errors.{Answer, accepted, refused, error_number, given, checked}
+use Rattle.clock_time.specs.Errors.{Answer, accepted, refused, given, checked}
 use Rattle.layout.specs.Layout.{has}
 use Rattle.layout.specs.Text.{read_text}
 use Rattle.time_string.specs.Row.{Reading, time, time_and_position, shaped_answer, TellingByte, any_byte, letter_d}
 use Rattle.time_string.specs.Row.{other_byte, KindRow, kind_row, all_kinds}
 use Rattle.time_string.specs.declared.Kind.{Kind}
 use Rattle.time_string.specs.declared.Kind.TheVariants.{Standard}
-use Rattle.time_string.specs.declared.KindAnswer.{KindAnswer}
-use Rattle.time_string.specs.declared.KindAnswer.TheVariants as kinds
-use Rattle.time_string.specs.declared.TimeAnswer.{TimeAnswer}
-use Rattle.time_string.specs.declared.TimeAnswer.TheVariants as times
 
 -- ---- telling the kind
 -- "32 long is standard if place 1 holds `D`, else PZF" (01, Meinberg and ELV strings): the byte at place 1 is one that
@@ -32,11 +28,6 @@ first_told s (k ∷ ks) = cond (is_told (kind_row k) s) (accepted k) (first_told
 -- "A separate question tells the kind from the bytes" (01, Meinberg and ELV strings)
 unfoldable pub kind_of : List ℕ → Answer Kind
 kind_of s = first_told s all_kinds
-
--- the function's answer: a kind, or a refusal with the error's number
-abbrev pub kind_answer : KindAnswer → Answer Kind
-kind_answer (kinds.Kind k) = accepted k
-kind_answer (kinds.Refused e) = refused (error_number e)
 
 -- ---- naming the kind
 -- the kinds as C numbers them
@@ -60,8 +51,3 @@ read_row r s = shaped_answer r.shape (read_text r.format.format s)
 unfoldable pub read_as : Kind → List ℕ → Answer Reading
 read_as kind s = read_row (kind_row kind) s
 
--- the function's answer: a reading, or a refusal with the error's number
-abbrev pub time_answer : TimeAnswer → Answer Reading
-time_answer (times.Read t) = accepted (time t)
-time_answer (times.ReadWithPosition g) = accepted (time_and_position g)
-time_answer (times.Refused e) = refused (error_number e)

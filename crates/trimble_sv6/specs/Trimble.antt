@@ -1,6 +1,6 @@
 -- The string of a Trimble SV6 receiver, 37 bytes.
 use Rattle.std.specs.Prelude.{ℕ, false, not, List, [], ◌∷◌, ◌++◌, pos}
-use Rattle.clock_time.specs.Errors.{Answer, accepted, refused, error_number, given, checked}
+use Rattle.clock_time.specs.Errors.{Answer, accepted, refused, given, checked}
 use Rattle.clock_time.specs.Lists.{ascii}
 use Rattle.clock_time.specs.declared.ClockTime.{ClockTime}
 use Rattle.calendar.specs.Date.{with_weekday}
@@ -8,8 +8,6 @@ use Rattle.layout.specs.Layout.{digit, free, printable, places, number, has}
 use Rattle.layout.specs.Text.{Format, supported_day, clock_checks, read_text}
 use Rattle.trimble_sv6.specs.Sum.{sum_holds}
 use Rattle.trimble_sv6.specs.declared.TrimbleTime.{TrimbleTime}
-use Rattle.trimble_sv6.specs.declared.TrimbleAnswer.{TrimbleAnswer}
-use Rattle.trimble_sv6.specs.declared.TrimbleAnswer.TheVariants.{Read, Refused}
 
 -- "`>RTM`, hh 4, mm 6, ss 8, ddd 10 (milliseconds), DD 13, MM 15, YYYY 17, oo 21, d 23, nn 24, v 26, rrrrr 27, `;*` 32,
 -- xx 34, `<` 36. All digits but v, xx and rrrrr; rrrrr is any bytes from 32 to 126 (others give 2)" (02, T-01)
@@ -68,8 +66,3 @@ trimble =
 -- the reader, by the rule for every time string
 unfoldable pub read_trimble : List ℕ → Answer TrimbleTime
 read_trimble s = read_text trimble s
-
--- the function's answer: what was read, or a refusal with the error's number
-abbrev pub trimble_answer : TrimbleAnswer → Answer TrimbleTime
-trimble_answer (Read g) = accepted g
-trimble_answer (Refused e) = refused (error_number e)

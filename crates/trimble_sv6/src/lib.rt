@@ -2,9 +2,9 @@
 #![tactic(auto)]
 
 ghost use Rattle.std.specs.Prelude.{◌≡◌, length};
+ghost use Rattle.clock_time.specs.Reading.{answer_of};
 ghost use Rattle.layout.specs.Layout.{FitsLayout};
 ghost use Rattle.trimble_sv6.specs.Trimble.{trimble_layout, sent_fields, milliseconds_of, read_clock, read_trimble};
-ghost use Rattle.trimble_sv6.specs.Trimble.{trimble_answer};
 
 use clock_time::{ClockTime, Error};
 
@@ -16,13 +16,6 @@ mod sum;
 pub struct TrimbleTime {
     pub time: ClockTime,
     pub milliseconds: u16,
-}
-
-// What was read, or the error.
-#[derive(Clone, Copy)]
-pub enum TrimbleAnswer {
-    Read(TrimbleTime),
-    Refused(Error),
 }
 
 // The fields that are sent, and 0 for a weekday.
@@ -62,48 +55,48 @@ fn milliseconds(s: &[u8]) -> u16
 // Reads the clock time of a string whose sum and validity hold. Refuses with NoSuchDate (5) if the date is not one of
 // 1970 to 2069, then with NoSuchTime (6). Just such a date has no weekday, so that one test serves both. It is not
 // `layout::check_without_weekday`: with a second caller the compiler would no longer inline that into ELV's reader.
-fn read_clock(s: &[u8]) -> TrimbleAnswer
+fn read_clock(s: &[u8]) -> Result<TrimbleTime, Error>
     requires { (length s.now ≡ 37) × FitsLayout trimble_layout s.now }
-    ensures { trimble_answer result ≡ read_clock s.now }
+    ensures { answer_of result ≡ read_clock s.now }
 {
     let t = calendar::date::with_weekday(sent_fields(s));
     if t.weekday == 0 {
-        return TrimbleAnswer::Refused(Error::NoSuchDate);
+        return Err(Error::NoSuchDate);
     }
     if !calendar::time_of_day::time_exists(t.hour, t.minute, t.second, t.utc_offset) {
-        return TrimbleAnswer::Refused(Error::NoSuchTime);
+        return Err(Error::NoSuchTime);
     }
-    TrimbleAnswer::Read(TrimbleTime {
+    Ok(TrimbleTime {
         time: t,
         milliseconds: milliseconds(s),
     })
 }
 
 // Reads a string that fits its layout.
-fn read_fitting(s: &[u8]) -> TrimbleAnswer
+fn read_fitting(s: &[u8]) -> Result<TrimbleTime, Error>
     requires { (length s.now ≡ 37) × FitsLayout trimble_layout s.now }
-    ensures { trimble_answer result ≡ read_trimble s.now }
+    ensures { answer_of result ≡ read_trimble s.now }
 {
     let right = sum::holds(s);
     let valid = s[26] == b'1';
     if !right {
-        return TrimbleAnswer::Refused(Error::Checksum);
+        return Err(Error::Checksum);
     }
     if !valid {
-        return TrimbleAnswer::Refused(Error::ValidityFlag);
+        return Err(Error::ValidityFlag);
     }
     read_clock(s)
 }
 
 // Reads a Trimble SV6 string: the clock time and the milliseconds. Refuses with the first that holds of Length (1),
 // FixedByte (2), NotDigit (3), Checksum (24), ValidityFlag (25), NoSuchDate (5) and NoSuchTime (6).
-pub fn read_trimble(s: &[u8]) -> TrimbleAnswer
-    ensures { trimble_answer result ≡ read_trimble s.now }
+pub fn read_trimble(s: &[u8]) -> Result<TrimbleTime, Error>
+    ensures { answer_of result ≡ read_trimble s.now }
 {
     if s.len() == 37 {
         if places::fits(s) {
             return read_fitting(s);
         }
     }
-    TrimbleAnswer::Refused(places::first_error(&s[..]))
+    Err(places::first_error(&s[..]))
 }

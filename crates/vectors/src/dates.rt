@@ -2,7 +2,6 @@
 // the enum.
 use crate::numbers::Numbers;
 use crate::{commands, numbers};
-use calendar::date::DateAnswer;
 use calendar::{date, time_of_day};
 use clock_time::Error;
 use gregorian::FIRST_YEAR;
@@ -38,10 +37,10 @@ fn error_at(i: u8) -> Error {
     }
 }
 
-fn number_of(answer: DateAnswer) -> u64 {
+fn number_of(answer: Result<u32, Error>) -> u64 {
     match answer {
-        DateAnswer::Number(value) => value as u64,
-        DateAnswer::Refused(e) => numbers::answer_number(clock_time::error_number(e), 0),
+        Ok(value) => value as u64,
+        Err(e) => numbers::answer_number(u8::from(e), 0),
     }
 }
 
@@ -62,7 +61,7 @@ pub fn answer(word: u64, v: &Numbers) -> u64 {
     let second = numbers::u8_at(v, 2);
     let third = numbers::u8_at(v, 3);
     match word {
-        commands::ERROR => clock_time::error_number(error_at(first)) as u64,
+        commands::ERROR => u8::from(error_at(first)) as u64,
         commands::YEAR => gregorian::full_year(FIRST_YEAR, first) as u64,
         commands::TIME => {
             time_of_day::time_exists(first, second, third, numbers::i16_at(v, 4)) as u64

@@ -4,7 +4,7 @@ ghost use Rattle.clock_time.specs.Writing.{written};
 ghost use Rattle.decimal.specs.Decimal.{digits};
 ghost use Rattle.vectors.specs.DigitRun.{read_digits, digits_answer, write_digits};
 
-use clock_time::{Error, WriteAnswer};
+use clock_time::Error;
 
 // The number that a run of digits stands for; or the place of the first byte that is no digit; or more than 19 bytes.
 #[derive(Clone, Copy)]
@@ -64,18 +64,18 @@ fn fill_digits(number: u64, count: usize, out: &mut [u8])
 
 // Writes `number` as `count` digits to the front of `out`. Refuses with Unrepresentable (23) if it has more digits or
 // `count` is above 19, then with LentMemory (20) if there is no room.
-pub(crate) fn write_digits(number: u64, count: usize, out: &mut [u8]) -> WriteAnswer
+pub(crate) fn write_digits(number: u64, count: usize, out: &mut [u8]) -> Result<usize, Error>
     ensures { written result out.new ≡ write_digits number count out.old }
 {
     if 19 < count {
-        return WriteAnswer::Refused(Error::Unrepresentable);
+        return Err(Error::Unrepresentable);
     }
     if power_of_ten(count) <= number {
-        return WriteAnswer::Refused(Error::Unrepresentable);
+        return Err(Error::Unrepresentable);
     }
     if out.len() < count {
-        return WriteAnswer::Refused(Error::LentMemory);
+        return Err(Error::LentMemory);
     }
     fill_digits(number, count, out);
-    WriteAnswer::Written(count)
+    Ok(count)
 }

@@ -1,9 +1,9 @@
 // The commands on runs of digits: `digits` reads one, `number` writes one into a lent buffer.
+use clock_time::Error;
 use crate::digit_run::DigitsRead;
 use crate::numbers::Numbers;
 use crate::text::Text;
 use crate::{digit_run, numbers};
-use clock_time::WriteAnswer;
 
 // The number that the digits s are. A byte that is no digit gives NotDigit (3), and 100 more for each place before it;
 // more than 19 bytes give Length (1).
@@ -15,10 +15,10 @@ pub fn read(s: &[u8]) -> u64 {
     }
 }
 
-fn count_written(answer: WriteAnswer) -> u64 {
+fn count_written(answer: Result<usize, Error>) -> u64 {
     match answer {
-        WriteAnswer::Written(count) => count as u64,
-        WriteAnswer::Refused(e) => numbers::answer_number(clock_time::error_number(e), 0),
+        Ok(count) => count as u64,
+        Err(e) => numbers::answer_number(u8::from(e), 0),
     }
 }
 

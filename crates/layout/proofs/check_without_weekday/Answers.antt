@@ -24,20 +24,21 @@ passes t date time =
 
 pub returns-then-not-is_supported_date : goal.returns-then-not-is_supported_date
 unfolding clock_checks supported_day
-returns-then-not-is_supported_date c = simp (← c.is_supported_date.ensures, c.if-not-is_supported_date.true)
+returns-then-not-is_supported_date c =
+    let date = rw c.date.ensures at c.is_supported_date.ensures in
+    simp (← date, c.if-not-is_supported_date.true)
 
 pub returns-then-not-time_exists : goal.returns-then-not-time_exists
 unfolding clock_checks supported_day with_weekday
 returns-then-not-time_exists c =
-    let offset_fits : SFits w16 c.args.t.utc_offset =
-    search sfits_of in
+    let offset_fits : SFits w16 c.args.t.utc_offset = search sfits_of in
+    let date = rw c.date.ensures at c.is_supported_date.ensures in
     let time = rw (to_z-of_z offset_fits) at c.time_exists.ensures in
-    simp (← c.is_supported_date.ensures, c.if-not-is_supported_date.false, ← time, c.if-not-time_exists.true)
+    simp (← date, c.if-not-is_supported_date.false, ← time, c.if-not-time_exists.true)
 
 pub returns : goal.returns
 returns c =
-    let offset_fits : SFits w16 c.args.t.utc_offset =
-    search sfits_of in
-    let date = sym c.is_supported_date.ensures ∙ c.if-not-is_supported_date.false in
+    let offset_fits : SFits w16 c.args.t.utc_offset = search sfits_of in
+    let date = sym (rw c.date.ensures at c.is_supported_date.ensures) ∙ c.if-not-is_supported_date.false in
     let time = rw (to_z-of_z offset_fits) at c.time_exists.ensures in
     rw c.with_weekday.ensures (passes _ date (sym time ∙ c.if-not-time_exists.false))

@@ -1,15 +1,12 @@
-use mathlib.Core.Path.{sym, ◌∙◌}
 use Rattle.calendar.specs.Date.{day_number}
+use Rattle.calendar.proofs.DateLaws.{day_known}
 use Rattle.calendar.proofs.date.day_number.Goals as goal
 
-pub days_since_epoch-requires : goal.days_since_epoch-requires
-days_since_epoch-requires c = sym c.is_supported_date.ensures ∙ c.if-is_supported_date.true
+pub returns-in-Some : goal.returns-in-Some
+returns-in-Some c =
+    let known = day_known _ _ _ c.in-Some.supported.is_supported in
+    rw (c.days_since_epoch.ensures, ← c.in-Some.ensures.same, known)
 
-pub returns-then-is_supported_date : goal.returns-then-is_supported_date
+pub returns-in-None : goal.returns-in-None
 unfolding day_number
-returns-then-is_supported_date c =
-    simp (c.days_since_epoch.ensures, ← c.is_supported_date.ensures, c.if-is_supported_date.true)
-
-pub returns : goal.returns
-unfolding day_number
-returns c = simp (← c.is_supported_date.ensures, c.if-is_supported_date.false)
+returns-in-None c = simp (← c.in-None.ensures.known)

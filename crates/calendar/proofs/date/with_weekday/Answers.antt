@@ -9,4 +9,4 @@ pub returns : goal.returns
 unfolding with_weekday
 returns c =
     let f : SFits w16 c.args.t.utc_offset = search sfits_of in
-    simp (to_z-of_z f, c.weekday_or_zero.ensures)
+    simp (to_z-of_z f, c.weekday_or_zero.ensures, c.date.ensures)

@@ -16,12 +16,13 @@ dated : (t : ClockTime) → is_reading t ≡ true → supported_date first_year 
 unfolding is_reading
 dated t h = (both _ _ (both _ _ (both _ _ (both _ _ h).0).0).0).0
 
-pub days_since_epoch-days-requires : goal.days_since_epoch-days-requires
-days_since_epoch-days-requires c = dated c.args.t c.requires
+pub invariant_of-days_since_epoch : goal.invariant_of-days_since_epoch
+invariant_of-days_since_epoch c = rw c.date.ensures (record { is_supported = dated c.args.t c.requires })
 
 pub to_utc-requires : goal.to_utc-requires
 to_utc-requires c =
-    omega (arith, c.days_since_epoch-days.ensures, days_small _ _ _ (dated c.args.t c.requires))
+    let days = rw c.date.ensures at c.days_since_epoch-days.ensures in
+    omega (arith, days, days_small _ _ _ (dated c.args.t c.requires))
 
 pub returns : goal.returns
 unfolding instant_of
@@ -29,4 +30,4 @@ returns c =
     let f : SFits w64 c.to_utc.result = search sfits_of in
     let o : SFits w16 c.args.t.utc_offset = search sfits_of in
     let utc = rw (to_z-of_z o) at c.to_utc.ensures in
-    rw (to_z-of_z f, utc) (simp c.days_since_epoch-days.ensures)
+    rw (to_z-of_z f, utc) (simp (c.days_since_epoch-days.ensures, c.date.ensures))

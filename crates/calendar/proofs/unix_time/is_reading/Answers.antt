@@ -12,7 +12,7 @@ unfolding is_reading
 returns-then-t-offset_in_range c =
     let f : SFits w16 c.args.t.utc_offset = search sfits_of in
     let rest-holds = rw (c.offset_in_range.ensures, to_z-of_z f, and_assoc) at c.if-t-offset_in_range.true in
-    let known = sym c.is_supported_date.ensures ∙ c.if-is_supported_date.true in
+    let known = sym (rw c.date.ensures at c.is_supported_date.ensures) ∙ c.if-is_supported_date.true in
     simp (c.time_exists.ensures, to_z-of_z f, and_assoc, known, rest-holds, and-true)
 
 pub returns-then-is_supported_date : goal.returns-then-is_supported_date
@@ -24,4 +24,4 @@ returns-then-is_supported_date c =
 
 pub returns : goal.returns
 unfolding is_reading
-returns c = let known = sym c.is_supported_date.ensures ∙ c.if-is_supported_date.false in simp known
+returns c = let known = sym (rw c.date.ensures at c.is_supported_date.ensures) ∙ c.if-is_supported_date.false in simp known

@@ -2,4 +2,3 @@
 pub mod LineLaws
 pub mod NumeralLaws
 pub mod PartLaws
-pub mod LastLineLaws

@@ -2,4 +2,3 @@
 pub mod Line
 pub mod Numeral
 pub mod Totals
-pub mod LastLine

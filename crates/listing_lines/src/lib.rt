@@ -34,7 +34,5 @@ pub fn write_totals(t: Totals, out: &mut [u8]) -> Result<usize, Error>
     ensures { written result out.new ≡ write_totals t out.old }
 {
     let line = last_line::totals_line(t);
-    let text = line.text;
-    let n = line.length;
-    clock_time::write_bytes(true, &text[..n], out)
+    clock_time::write_bytes(true, line.as_str().as_bytes(), out)
 }

@@ -1,5 +1,5 @@
 -- A feed over all of s, read, counted and with its line, is what the listing tells of s.
-use Rattle.std.proofs.Common.{◌≡◌, ℕ, ◌≤◌, List, length, take, sym, refl, ap, ◌∙◌, arith, length-take-le}
+use Rattle.std.proofs.Common.{◌≡◌, ℕ, ◌≤◌, List, length, take, sym, refl, ap, ◌∙◌, arith}
 use lib.Seq.{take-length}
 use Rattle.framing.specs.declared.Event.{Event}
 use Rattle.framing.specs.declared.Event.TheVariants.{Nothing, Complete, Dropped}
@@ -8,8 +8,9 @@ use Rattle.framing.specs.Feed.{feed_of}
 use Rattle.framing.proofs.StepsLaws.{feed_taken, feed_complete}
 use Rattle.listing.specs.declared.Listing.{Listing}
 use Rattle.listing_lines.specs.declared.Totals.{Totals}
-use Rattle.listing.specs.declared.entry.TextLine.{TextLine}
-use Rattle.listing.specs.Items.{Item, Within, item_of, item_line, Shows, counted}
+use Rattle.arrayvec.specs.ArrayVec.{ArrayVec}
+use Rattle.listing.proofs.ItemsLaws.{line_short}
+use Rattle.listing.specs.Items.{Item, Within, item_of, item_line, counted}
 use Rattle.listing.specs.NextLine.{ListsNext}
 use Rattle.listing.proofs.ListingLaws.{Agrees, agrees}
 
@@ -33,16 +34,15 @@ module _ (l : Listing) (s : List ℕ) (r : FeedResult) (e : r ≡ feed_of l.fram
   next_agrees = rw whole (agrees s l)
 
   pub lists_next : (i : Item) → i ≡ item_of r.framer.bytes r.event
-      → (totals : Totals) → totals ≡ counted l.totals i → (line : TextLine) → Shows line i
+      → (totals : Totals) → totals ≡ counted l.totals i → (line : ArrayVec ℕ) → line.items ≡ item_line i
       → ListsNext l s
       (record { listing = record { framer = r.framer; totals = totals }; line = line; taken = r.taken })
   lists_next i q totals t line shows =
       record {
         within = rw taken (feed_taken l.framer s (length s)).0;
         some = λ h. rw taken ((feed_taken l.framer s (length s)).1 h h);
-        short = shows.short;
-        fits = shows.fits;
-        text = shows.line ∙ ap item_line q ∙ sym next_agrees.text;
+        short = rw shows (line_short i);
+        text = shows ∙ ap item_line q ∙ sym next_agrees.text;
         state = listing ∙ sym next_agrees.state;
         goes = λ room h. rw (listing, size) (next_agrees.goes room h);
       }
@@ -54,5 +54,5 @@ module _ (l : Listing) (s : List ℕ) (r : FeedResult) (e : r ≡ feed_of l.fram
           (record { framer = r.framer; totals = counted l.totals (item_of r.framer.bytes r.event) })
       listing = rw (t, q)
 
-      size : line.length ≡ length (item_line (item_of r.framer.bytes r.event))
-      size = sym (length-take-le line.length line.text shows.fits) ∙ ap length (shows.line ∙ ap item_line q)
+      size : length line.items ≡ length (item_line (item_of r.framer.bytes r.event))
+      size = ap length (shows ∙ ap item_line q)

@@ -1,7 +1,7 @@
 -- The text of the first i bytes stands in the first `at` bytes of the buffer: how the loop over a slice goes on.
-use Rattle.std.proofs.Common.{◌≡◌, ℕ, ◌+◌, ◌-◌, ◌<◌, ◌≤◌, List, ◌++◌, length, take, drop, sym, refl, ap, ◌∙◌, add-zero, add_assoc, zero-add, arith, length-append, length-drop, drop_of_length-le, length-take-le, drop-drop, take_at, take-add, drop_at}
-use native.Mathlib.Nat.{sub-zero, sub-add-eq}
-use lib.Seq.{paste, length-paste}
+use Rattle.std.proofs.Common.{◌≡◌, ℕ, ◌+◌, ◌-◌, ◌<◌, ◌≤◌, List, ◌++◌, length, take, drop, sym, refl, ap, ◌∙◌, add-zero, add_assoc, zero-add, arith, length-append, length-drop, drop_of_length-le, drop-drop, take_at, take-add, drop_at}
+use native.Mathlib.Nat.{le_refl, sub-zero, sub-add-eq}
+use lib.Seq.{paste, length-paste, take-length}
 use Rattle.framing.proofs.FeedLaws.{rest}
 use Rattle.listing.specs.declared.Listing.{Listing}
 use Rattle.listing.specs.declared.LineResult.{LineResult}
@@ -35,9 +35,9 @@ so_far_none l s buffer =
 pub record Turn (l : Listing) (s buffer : List ℕ) (i at : ℕ) (out : List ℕ) (r : LineResult) : Type 0 where
   pub some : 0 < r.taken
   pub within : i + r.taken ≤ length s
-  pub fits : at + r.line.length ≤ length out
-  pub more : ListedSoFar l s buffer (i + r.taken) (at + r.line.length) r.listing
-      (paste out at r.line.text r.line.length)
+  pub fits : at + length r.line.items ≤ length out
+  pub more : ListedSoFar l s buffer (i + r.taken) (at + length r.line.items) r.listing
+      (paste out at r.line.items (length r.line.items))
 
 module _
     (l : Listing) (s buffer : List ℕ) (i at : ℕ) (now : Listing) (out : List ℕ)
@@ -53,11 +53,11 @@ module _
         so_far_within : i + r.taken ≤ length s
         so_far_within = omega (arith, told.within, length-drop i s)
 
-        so_far_fits : at + r.line.length ≤ length out
+        so_far_fits : at + length r.line.items ≤ length out
         so_far_fits = omega (arith, told.short)
 
         abbrev more : List ℕ
-        more = take r.line.length r.line.text
+        more = r.line.items
 
         text_more : text_of l (take (i + r.taken) s) ≡ text_of l (take i s) ++ more
         text_more =
@@ -69,26 +69,25 @@ module _
         front : take at out ≡ text_of l (take i s)
         front = ap (take at) w.text ∙ take_at (text_of l (take i s)) (drop at buffer) at (sym w.size)
 
-        back : drop (at + r.line.length) out ≡ drop (at + r.line.length) buffer
+        back : drop (at + length r.line.items) out ≡ drop (at + length r.line.items) buffer
         back =
-            sym (drop-drop r.line.length at out)
-            ∙ ap (λ (x : List ℕ). drop r.line.length x)
+            sym (drop-drop (length r.line.items) at out)
+            ∙ ap (λ (x : List ℕ). drop (length r.line.items) x)
             (ap (drop at) w.text ∙ drop_at (text_of l (take i s)) (drop at buffer) at (sym w.size))
-            ∙ drop-drop r.line.length at buffer
+            ∙ drop-drop (length r.line.items) at buffer
 
-        so_far_more : ListedSoFar l s buffer (i + r.taken) (at + r.line.length) r.listing
-            (paste out at r.line.text r.line.length)
+        so_far_more : ListedSoFar l s buffer (i + r.taken) (at + length r.line.items) r.listing
+            (paste out at r.line.items (length r.line.items))
         so_far_more =
             record {
               within = so_far_within;
               fits = omega (arith, so_far_fits, w.same);
-              same = length-paste out at r.line.text r.line.length so_far_fits told.fits ∙ w.same;
+              same = length-paste out at r.line.items (length r.line.items) so_far_fits (le_refl _) ∙ w.same;
               size =
-                  ap (λ (n : ℕ). at + n) (sym (length-take-le r.line.length r.line.text told.fits))
-                  ∙ ap (λ (n : ℕ). n + length more) w.size
+                  ap (λ (n : ℕ). n + length more) w.size
                   ∙ sym (length-append (text_of l (take i s)) more)
                   ∙ ap length (sym text_more);
-              text = rw (front, back, text_more);
+              text = rw (take-length, front, back, text_more);
               state =
                   told.state
                   ∙ ap (λ (x : Listing). after x (take r.taken (drop i s))) w.state
@@ -97,7 +96,7 @@ module _
               goes =
                   w.goes
                   ∙ ap (λ (n : ℕ). i + n) (told.goes (length buffer - at) (omega (arith, w.same)))
-                  ∙ rw (drop-drop r.taken i s, sub-add-eq (length buffer) at r.line.length, add_assoc);
+                  ∙ rw (drop-drop r.taken i s, sub-add-eq (length buffer) at (length r.line.items), add_assoc);
             }
 
         pub turn : Turn l s buffer i at out r

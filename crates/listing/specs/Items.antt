@@ -1,6 +1,7 @@
 -- What the listing makes of each string.
-use Rattle.std.specs.Prelude.{◌≡◌, ℕ, ◌+◌, ◌%◌, ◌^◌, ◌≤◌, List, [], ◌++◌, length, take}
-use Rattle.clock_time.specs.Errors.{Answer, accepted, refused, error_number}
+use Rattle.std.specs.Prelude.{ℕ, ◌+◌, ◌%◌, ◌^◌, ◌≤◌, List, [], ◌++◌, length, take}
+use Rattle.clock_time.specs.Errors.{Answer, accepted, refused}
+use Rattle.clock_time.specs.Reading.{answer_of}
 use Rattle.clock_time.specs.declared.ClockTime.{ClockTime}
 use Rattle.clock_time.specs.Lists.{ascii}
 use Rattle.time_string.specs.declared.Kind.{Kind}
@@ -14,7 +15,6 @@ use Rattle.listing_lines.specs.Numeral.{numeral}
 use Rattle.listing_lines.specs.declared.Totals.{Totals}
 use Rattle.listing.specs.declared.entry.Entry.{Entry}
 use Rattle.listing.specs.declared.entry.Entry.TheVariants as entries
-use Rattle.listing.specs.declared.entry.TextLine.{TextLine}
 
 -- ---- reading a string
 -- the clock time of what was read; the listing shows no position
@@ -53,8 +53,7 @@ Within Dropped bytes = Unit {0}
 -- the function's entry as an item
 abbrev pub entry_item : Entry → Item
 entry_item entries.Nothing = nothing
-entry_item (entries.Read t) = string (accepted t)
-entry_item (entries.Refused e) = string (refused (error_number e))
+entry_item (entries.String a) = string (answer_of a)
 entry_item entries.Dropped = overlong
 
 -- ---- lines
@@ -64,12 +63,6 @@ item_line nothing = []
 item_line (string (accepted t)) = time_line t
 item_line (string (refused k)) = ascii "refused " ++ numeral k ++ ascii "\n"
 item_line overlong = ascii "dropped\n"
-
--- the first `length` bytes of a text are an item's line
-pub record Shows (r : TextLine) (i : Item) : Type 0 where
-  pub short : r.length ≤ 35
-  pub fits : r.length ≤ length r.text
-  pub line : take r.length r.text ≡ item_line i
 
 -- ---- totals
 -- one more, as a count of 64 bits, which goes on with 0 after its highest

@@ -9,9 +9,8 @@ use Rattle.listing.specs.declared.LineResult.{LineResult}
 pub record ListsNext (l : Listing) (s : List ℕ) (r : LineResult) : Type 0 where
   pub within : r.taken ≤ length s
   pub some : 0 < length s → 0 < r.taken
-  pub short : r.line.length ≤ 35
-  pub fits : r.line.length ≤ length r.line.text
-  pub text : take r.line.length r.line.text ≡ text_of l (take r.taken s)
+  pub short : length r.line.items ≤ 35
+  pub text : r.line.items ≡ text_of l (take r.taken s)
   pub state : r.listing ≡ after l (take r.taken s)
   pub goes : (room : ℕ) → 35 ≤ room
-      → taken_of l s room ≡ r.taken + taken_of r.listing (drop r.taken s) (room - r.line.length)
+      → taken_of l s room ≡ r.taken + taken_of r.listing (drop r.taken s) (room - length r.line.items)

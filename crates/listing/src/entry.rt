@@ -1,51 +1,35 @@
 // What is listed of a string.
-ghost use Rattle.std.specs.Prelude.{◌≡◌, ◌<◌};
+ghost use Rattle.std.specs.Prelude.{◌≡◌};
 ghost use Rattle.clock_time.specs.Reading.{answer_of};
-ghost use Rattle.clock_time.specs.Errors.{refused};
-ghost use Rattle.listing.specs.Items.{clock_answer, read_string, string, item_of, Within, entry_item, Shows, counted};
+ghost use Rattle.listing.specs.Items.{read_string, string, item_of, Within, entry_item, item_line, counted};
 
-use time_string::Reading;
+use arrayvec::ArrayVec;
 use clock_time::{ClockTime, Error};
 use framing::Event;
-use listing_lines::Totals;
+use itoa::Buffer;
+use listing_lines::{Totals, line};
 
-// What an event of the feed brings to the listing.
+// The length of a clock time's line: no other is longer.
+const LONGEST: usize = 35;
+
+// A line of text, its line feed included.
+pub(crate) type Line = ArrayVec<u8, LONGEST>;
+
+// What an event of the feed brings to the listing: nothing, a string as it was read, or an overlong string dropped.
 #[derive(Clone, Copy)]
 pub(crate) enum Entry {
     Nothing,
-    Read(ClockTime),
-    Refused(Error),
+    String(Result<ClockTime, Error>),
     Dropped,
 }
 
-// A line of text, its line feed included: the first `length` bytes of `text`.
-#[derive(Clone, Copy)]
-pub(crate) struct TextLine {
-    pub(crate) text: [u8; 35],
-    pub(crate) length: usize,
-}
-
-fn entry_of(answer: Result<Reading, Error>) -> Entry
-    ensures { entry_item result ≡ string (clock_answer (answer_of answer)) }
-{
-    match answer {
-        Ok(Reading::Time(t)) => Entry::Read(t),
-        Ok(Reading::TimeAndPosition(g)) => {
-            let t = g.time;
-            Entry::Read(t)
-        }
-        Err(e) => Entry::Refused(e),
-    }
-}
-
 // Reads a string as the kind that its bytes tell.
-fn read_string(s: &[u8]) -> Entry
-    ensures { entry_item result ≡ string (read_string s.now) }
+fn read_string(s: &[u8]) -> Result<ClockTime, Error>
+    ensures { answer_of result ≡ read_string s.now }
 {
-    match time_string::kind_of(s) {
-        Ok(kind) => entry_of(time_string::read(kind, s)),
-        Err(e) => Entry::Refused(e),
-    }
+    let kind = time_string::kind_of(s)?;
+    let reading = time_string::read(kind, s)?;
+    Ok(reading.time())
 }
 
 // The entry of an event; `bytes` are those of the state after it.
@@ -55,7 +39,7 @@ pub(crate) fn entry_at(bytes: &[u8], event: Event) -> Entry
 {
     match event {
         Event::Nothing => Entry::Nothing,
-        Event::Complete(n) => read_string(&bytes[..n]),
+        Event::Complete(n) => Entry::String(read_string(&bytes[..n])),
         Event::Dropped => Entry::Dropped,
     }
 }
@@ -66,57 +50,47 @@ pub(crate) fn count(t: Totals, entry: Entry) -> Totals
 {
     match entry {
         Entry::Nothing => t,
-        Entry::Read(_) => Totals {
-            frames: std::num::wrapping_add_u64(t.frames, 1),
-            refused: t.refused,
-            dropped: t.dropped,
-        },
-        Entry::Refused(_) => Totals {
-            frames: std::num::wrapping_add_u64(t.frames, 1),
-            refused: std::num::wrapping_add_u64(t.refused, 1),
-            dropped: t.dropped,
+        Entry::String(answer) => Totals {
+            frames: t.frames.wrapping_add(1),
+            refused: t.refused.wrapping_add(u64::from(answer.is_err())),
+            ..t
         },
         Entry::Dropped => Totals {
-            frames: t.frames,
-            refused: t.refused,
-            dropped: std::num::wrapping_add_u64(t.dropped, 1),
+            dropped: t.dropped.wrapping_add(1),
+            ..t
         },
     }
 }
 
-fn refused_line(n: u8) -> TextLine
-    requires { n < 100 }
-    ensures { Shows result (string (refused n)) }
+// The line of a string, as it was read.
+fn string_line(answer: Result<ClockTime, Error>) -> Line
+    ensures { result.items ≡ item_line (string (answer_of answer)) }
 {
-    let mut text = *b"refused \0\0\0\0\0\0\0\0\0\0\0\0\0\0\0\0\0\0\0\0\0\0\0\0\0\0\0";
-    if n < 10 {
-        text[8] = 48 + n;
-        text[9] = b'\n';
-        return TextLine { text, length: 10 };
+    let mut line = Line::new();
+    match answer {
+        Ok(t) => line.try_extend_from_slice(&line::time_line(t)).unwrap(),
+        Err(e) => {
+            line.try_extend_from_slice(b"refused ").unwrap();
+            let mut number = Buffer::new();
+            line.try_extend_from_slice(number.format(u8::from(e)).as_bytes())
+                .unwrap();
+            line.push(b'\n');
+        }
     }
-    text[8] = 48 + n / 10;
-    text[9] = 48 + n % 10;
-    text[10] = b'\n';
-    TextLine { text, length: 11 }
+    line
 }
 
 // The line of an entry, empty if there is nothing to say.
-pub(crate) fn entry_line(entry: Entry) -> TextLine
-    ensures { Shows result (entry_item entry) }
+pub(crate) fn entry_line(entry: Entry) -> Line
+    ensures { result.items ≡ item_line (entry_item entry) }
 {
     match entry {
-        Entry::Nothing => TextLine {
-            text: [0u8; 35],
-            length: 0,
-        },
-        Entry::Read(t) => TextLine {
-            text: listing_lines::line::time_line(t),
-            length: 35,
-        },
-        Entry::Refused(e) => refused_line(u8::from(e)),
-        Entry::Dropped => TextLine {
-            text: *b"dropped\n\0\0\0\0\0\0\0\0\0\0\0\0\0\0\0\0\0\0\0\0\0\0\0\0\0\0\0",
-            length: 8,
-        },
+        Entry::Nothing => Line::new(),
+        Entry::String(answer) => string_line(answer),
+        Entry::Dropped => {
+            let mut line = Line::new();
+            line.try_extend_from_slice(b"dropped\n").unwrap();
+            line
+        }
     }
 }

@@ -11,7 +11,7 @@ use listing_lines::Totals;
 
 mod entry;
 
-use entry::TextLine;
+use entry::Line;
 
 // The state between two bytes.
 #[derive(Clone, Copy)]
@@ -29,21 +29,19 @@ pub struct Listed {
 }
 
 // The state after the bytes taken, and their line.
-#[derive(Clone, Copy)]
+#[derive(Drop)]
 struct LineResult {
     listing: Listing,
-    line: TextLine,
+    line: Line,
     taken: usize,
 }
 
 // Puts the line into `out` from `at` on.
-fn put_line(out: &mut [u8], at: usize, line: TextLine)
-    requires { (at + line.length ≤ length out.old) × (line.length ≤ length line.text) }
-    ensures { out.new ≡ paste out.old at line.text line.length }
+fn put_line(out: &mut [u8], at: usize, line: &[u8])
+    requires { at + length line.now ≤ length out.old }
+    ensures { out.new ≡ paste out.old at line.now (length line.now) }
 {
-    let text = line.text;
-    let n = line.length;
-    out[at..at + n].copy_from_slice(&text[..n]);
+    out[at..at + line.len()].copy_from_slice(line);
 }
 
 // Takes the bytes of s up to the first that ends a string.
@@ -97,11 +95,10 @@ impl Listing {
                 };
             }
             let result = next_line(listing, &s[i..]);
-            let next = result.listing;
-            listing = next;
-            let line = result.line;
+            listing = result.listing;
+            let line = result.line.as_slice();
             put_line(out, at, line);
-            at += line.length;
+            at += line.len();
             i += result.taken;
         }
         Listed {

@@ -4,7 +4,6 @@ use Rattle.clock_time.specs.Errors.{Answer, accepted, refused, given, checked}
 use Rattle.layout.specs.Layout.{has}
 use Rattle.layout.specs.Text.{read_text}
 use Rattle.time_string.specs.declared.Reading.{Reading}
-use Rattle.time_string.specs.declared.Reading.TheVariants.{Time, TimeAndPosition}
 use Rattle.time_string.specs.Row.{shaped_answer, TellingByte, any_byte, letter_d}
 use Rattle.time_string.specs.Row.{other_byte, KindRow, kind_row, all_kinds}
 use Rattle.time_string.specs.declared.Kind.{Kind}

@@ -3,6 +3,7 @@
 
 ghost use Rattle.std.specs.Prelude.{◌≡◌};
 ghost use Rattle.clock_time.specs.Reading.{answer_of};
+ghost use Rattle.time_string.specs.Row.{reading_time};
 ghost use Rattle.time_string.specs.Kind.{kind_of, kind_number, kind_named, read_as};
 
 use clock_time::{ClockTime, Error};
@@ -48,6 +49,18 @@ impl TryFrom<u8> for Kind {
 pub enum Reading {
     Time(ClockTime),
     TimeAndPosition(GpsTime),
+}
+
+impl Reading {
+    // The clock time of a reading, without its position.
+    pub fn time(self) -> ClockTime
+        ensures { result ≡ reading_time self }
+    {
+        match self {
+            Reading::Time(t) => t,
+            Reading::TimeAndPosition(g) => g.time,
+        }
+    }
 }
 
 // The kind of a string: by its length, and of the two that are 32 long by the byte at place 1. Refuses with Length (1)

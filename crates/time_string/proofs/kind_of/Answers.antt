@@ -11,10 +11,10 @@ pub returns-in-66 : goal.returns-in-66
 returns-in-66 c = sym ((kind_laws Gps).told _ (c.in-66.is, tt))
 
 pub returns-in-32 : goal.returns-in-32
-returns-in-32 c = sym ((kind_laws Standard).told _ (c.in-32.is, c.if-s-eq68.true))
+returns-in-32 c = sym ((kind_laws Standard).told _ (c.in-32.is, omega arith))
 
 pub returns-in-32-2 : goal.returns-in-32-2
-returns-in-32-2 c = sym ((kind_laws Pzf).told _ (c.in-32.is, c.if-s-eq68.false))
+returns-in-32-2 c = sym ((kind_laws Pzf).told _ (c.in-32.is, λ e. omega arith))
 
 pub returns-in-21 : goal.returns-in-21
 returns-in-21 c = sym ((kind_laws Elv).told _ (c.in-21.is, tt))

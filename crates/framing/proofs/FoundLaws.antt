@@ -85,7 +85,7 @@ module _ (rest : List ℕ) where
       let p = plain_cons b body plain in
       rw (suc-eq-add-one (length body))
       (drops_more (framer_of bytes count Overlong) (framer_of bytes count Overlong) b (length body + 1)
-      (body ++ 3 ∷ rest) (still_overlong bytes count few b p.0) (drops_overlong body bytes count few p.1))
+      (body ++ 3 ∷ rest) (still_overlong (framer_of bytes count Overlong) refl few b p.0) (drops_overlong body bytes count few p.1))
 
   -- inside with 66 kept
   drops_full : (body bytes : List ℕ) (count : ℕ) → count ≡ 66 → all_plain body ≡ true

@@ -1,7 +1,7 @@
 -- Laws of the single step.
 use Prim.Native.Nat.{ℕ, ◌+◌, ◌<◌, ◌≤◌}
 use native.Mathlib.Omega.{arith}
-use mathlib.Core.Path.{◌≡◌, refl}
+use mathlib.Core.Path.{◌≡◌, refl, sym, ap, ◌∙◌}
 use mathlib.Core.Bool.{Bool, true, false, cond, ◌||◌, true≢false}
 use mathlib.Core.List.{List}
 use lib.Dec.{eqb, ltb}
@@ -143,8 +143,10 @@ module _ (f : Framer) (b : ℕ) where
 pub still_outside : (f : Framer) → effective_mode f.count f.mode ≡ Outside → Still f 2
 still_outside f at b h = step_outside f b at (neither (eqb b 2) (eqb b 2) h).0
 
-pub still_overlong : (bytes : List ℕ) (count : ℕ) → count ≤ 66 → Still (framer_of bytes count Overlong) 3
-still_overlong bytes count few b h = step_other _ b Overlong (mode_overlong count few) h
+pub still_overlong : (f : Framer) → f.mode ≡ Overlong → f.count ≤ 66 → Still f 3
+still_overlong f overlong few b h =
+    step_other f b Overlong (rw overlong (mode_overlong f.count few)) h
+    ∙ ap (λ (m : Mode). record { framer = in_mode f m; event = Nothing }) (sym overlong)
 
 -- it is kept if there is room
 pub step_keeps : (bytes : List ℕ) (count b : ℕ) → count < 66 → eqb b 2 || eqb b 3 ≡ false

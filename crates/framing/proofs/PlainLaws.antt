@@ -17,6 +17,7 @@ use Rattle.std.specs.List.{position_or_len}
 use Rattle.std.specs.Option.{unwrap_or}
 use Rattle.std.specs.declared.option.Option.TheVariants.{Some, None}
 use Rattle.std.proofs.lemmas.Grind.{common_steps}
+use Rattle.std.proofs.lemmas.Bool.{not-true}
 use Rattle.std.specs.Simd.{first_chunks}
 use Rattle.std.proofs.lemmas.List.Sums.{position_or_len_is, prefix_len-le-length, prefix_len_passes}
 use Rattle.std.proofs.lemmas.List.Folds.{prefix_len-append}
@@ -58,7 +59,8 @@ module _ (s : List ℕ) (bytes : (i : ℕ) → get_or s i 0 < 256) where
       let b = get_or s at 0 in
       let above = bit_and (word k (suc at) s) (each k 124) + each k 124 in
       let low : bit_and b 124 + 124 < 256 = omega (arith, and_le_r b 124) in
-      let same : bit_and (word (suc k) at s) (each (suc k) 124) + each (suc k) 124 ≡ above * 256 + (bit_and b 124 + 124) =
+      let same : bit_and (word (suc k) at s) (each (suc k) 124) + each (suc k) 124
+          ≡ above * 256 + (bit_and b 124 + 124) =
       rw (and_block 8 (word k (suc at) s) (each k 124) b 124 (bytes at) (lit< tt)) (omega arith) in
       let w = set_block above (each k 128) (bit_and b 124 + 124) 128 low (lit< tt) (rw same at h) in
       elim (ℕ_discrete i at) [
@@ -94,13 +96,9 @@ eights_more (suc k) (suc m) s h plain =
     let n : 8 * suc k ≡ 8 + 8 * k = omega arith in
     rw (n, ← drop-drop) (omega (arith, e, f))
 
-not_true : (t : Bool) → not t ≡ true → t ≡ false
-not_true true h = sym h
-not_true false h = refl
-
 plain_at : (last : ℕ) (s : List ℕ) (i : ℕ) → i < before last s
     → eqb (get_or s i 0) 2 || eqb (get_or s i 0) last ≡ false
-plain_at last s i h = not_true _ (prefix_len_passes (λ b. not (eqb b 2 || eqb b last)) s i 0 h)
+plain_at last s i h = not-true _ (prefix_len_passes (λ b. not (eqb b 2 || eqb b last)) s i 0 h)
 
 pub before_take : (last m : ℕ) (s : List ℕ) → before last (take m s) ≤ before last s
 before_take last zero s = omega arith
@@ -146,7 +144,11 @@ taken_kept f s n inside h room size =
     kept l m = framer_of l m f.mode
 
     step_kept : (i : ℕ) → i < n → step_of (kept (paste f.bytes f.count s i) (f.count + i)) (get_or s i 0)
-        ≡ record { framer = kept (set (paste f.bytes f.count s i) (f.count + i) (get_or s i 0)) (f.count + i + 1); event = Nothing }
+        ≡ record {
+          framer = kept (set (paste f.bytes f.count s i) (f.count + i) (get_or s i 0)) (f.count + i + 1);
+          event = Nothing;
+        }
     step_kept i l =
         rw inside
-        (step_keeps (paste f.bytes f.count s i) (f.count + i) (get_or s i 0) (omega arith) (plain_at 3 s i (omega arith)))
+        (step_keeps (paste f.bytes f.count s i) (f.count + i) (get_or s i 0) (omega arith)
+        (plain_at 3 s i (omega arith)))

@@ -23,8 +23,8 @@ pub enum Mode {
     Overlong,
 }
 
-// The state between two bytes: of a string that goes on, the first `count` of `bytes` are kept. A state that C lends may
-// have a count above 66, so that the count stands beside the bytes, with no bound.
+// The state between two bytes: of a string that goes on, the first `count` of `bytes` are kept. A state that C lends
+// may have a count above 66, so the count stands beside the bytes, with no bound.
 #[derive(Clone, Copy)]
 pub struct Framer {
     pub bytes: [u8; 66],

@@ -15,14 +15,17 @@ fn before(s: &[u8], last: u8) -> usize
         .unwrap_or(s.len())
 }
 
-// True only if eight bytes are neither STX nor ETX: some bit of 2 to 6 is set in each, so that adding 124 to those
-// bits sets bit 7.
+// Of eight bytes side by side, bits 2 to 6 of each, and bit 7 of each.
+const BITS_2_TO_6: u64 = 0x7c7c_7c7c_7c7c_7c7c;
+const BIT_7: u64 = 0x8080_8080_8080_8080;
+
+// True only if eight bytes are neither STX nor ETX: some bit of 2 to 6 is set in each, so that adding all of these to
+// those sets bit 7.
 fn are_plain(s: [u8; 8]) -> bool
     ensures { result ≡ true → before 3 s ≡ 8 }
 {
     let bytes = bits::join_eight(s[0], s[1], s[2], s[3], s[4], s[5], s[6], s[7]);
-    ((bytes & 8970181431921507452) + 8970181431921507452) & 9259542123273814144
-        == 9259542123273814144
+    ((bytes & BITS_2_TO_6) + BITS_2_TO_6) & BIT_7 == BIT_7
 }
 
 // How many eights of bytes stand before the first that may have STX or ETX.
@@ -41,7 +44,7 @@ fn plain_run(s: &[u8]) -> usize
     ensures within { result ≤ length s.now }
     ensures before { result ≡ before 3 s.now }
 {
-    let (eights, _) = s.as_chunks();
+    let (eights, _) = s.as_chunks::<8>();
     let n = 8 * plain_eights(eights);
     n + before(&s[n..], ETX)
 }

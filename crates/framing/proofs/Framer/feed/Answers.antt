@@ -1,5 +1,6 @@
 use mathlib.Core.Path.{◌≡◌, sym}
 use mathlib.Core.Bool.{true, false}
+use lib.ListN.{take}
 use Rattle.std.proofs.Common.{rules, tests}
 use Rattle.std.proofs.lemmas.List.{take_min}
 use Rattle.framing.specs.Feed.{is_nothing}
@@ -8,9 +9,10 @@ use Rattle.framing.proofs.Framer.feed.Goals as goal
 
 pub returns-then-ne : goal.returns-then-ne
 returns-then-ne c =
+    let limited : take c.args.limit c.args.s.now ≡ take c.min.result c.args.s.now = simp (c.min.ensures, take_min) in
     let w = rw c.in-Some.ensures.cases.0 at c.loop-b.invariant in
     let loud : is_nothing c.advance-event.result ≡ false = search (rules, tests) in
-    rw (← take_min c.args.limit c.args.s.now, ← c.min.ensures) (sym (taken_stop _ _ _ _ _ w _ _ (sym c.advance-event.ensures) loud))
+    rw limited (sym (taken_stop _ _ _ _ _ w _ _ (sym c.advance-event.ensures) loud))
 
 pub loop-b-preserved : goal.loop-b-preserved
 loop-b-preserved c =
@@ -20,4 +22,5 @@ loop-b-preserved c =
 
 pub returns : goal.returns
 returns c =
-    rw (← take_min c.args.limit c.args.s.now, ← c.min.ensures) (sym (taken_end _ _ _ _ c.loop-b.invariant c.in_default.ensures.cases))
+    let limited : take c.args.limit c.args.s.now ≡ take c.min.result c.args.s.now = simp (c.min.ensures, take_min) in
+    rw limited (sym (taken_end _ _ _ _ c.loop-b.invariant c.in_default.ensures.cases))

@@ -5,7 +5,8 @@ use Rattle.framing.proofs.Framer.pass.Goals as goal
 
 pub returns-then-self-gt-ROOM : goal.returns-then-self-gt-ROOM
 returns-then-self-gt-ROOM c =
-    taken_still _ 2 (still_outside _ (mode_more _ _ c.if-self-gt-ROOM.true)) _ _ c.before-then-self-gt-ROOM.ensures.before
+    let outside = mode_more _ _ c.if-self-gt-ROOM.true in
+    taken_still _ 2 (still_outside _ outside) _ _ c.before-then-self-gt-ROOM.ensures.before
 
 pub returns-in-Outside : goal.returns-in-Outside
 returns-in-Outside c =

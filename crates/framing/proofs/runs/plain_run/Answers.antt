@@ -1,7 +1,7 @@
 -- The first eights are plain, and the rest is counted one by one.
 use native.Mathlib.Omega.{arith}
 use mathlib.Core.Path.{◌≡◌}
-use Prim.Native.Nat.{◌+◌, ◌*◌, ◌/◌}
+use Prim.Native.Nat.{◌+◌, ◌*◌, ◌/◌, ◌≤◌}
 use lib.ListN.{length, drop}
 use Rattle.framing.specs.Run.{before}
 use Rattle.framing.proofs.FeedLaws.{rest}
@@ -14,7 +14,8 @@ counted c =
     let n = c.plain_eights-n.result in
     let tail : c.before-2.result ≡ before 3 (drop (8 * n) s) = rw rest at c.before-2.ensures.before in
     let plain = rw c.as_chunks.ensures.front at c.plain_eights-n.ensures.plain in
-    let w = eights_more n (length s / 8) s (omega (arith, c.plain_eights-n.ensures.within, c.as_chunks.ensures.front_len)) plain in
+    let within : n ≤ length s / 8 = omega (arith, c.plain_eights-n.ensures.within, c.as_chunks.ensures.front_len) in
+    let w = eights_more n (length s / 8) s within plain in
     omega (arith, tail, w)
 
 pub overflow_add-result : goal.overflow_add-result

@@ -8,14 +8,14 @@ ghost use Rattle.std.specs.Int.Count.{ones};
 pub fn bit(on: bool) -> u8
     ensures { result ≡ cond on 1 0 }
 {
-    on as u8
+    u8::from(on)
 }
 
 // 1 if an odd number of bits is set, else 0.
 pub fn parity(n: u64) -> u64
     ensures { result ≡ ones n % 2 }
 {
-    (u64::count_ones(n) % 2) as u64
+    u64::from(n.count_ones() % 2)
 }
 
 // Eight bytes side by side as one number. As one sum, so that the compiler makes a single load of them.

@@ -60,7 +60,7 @@ module _ (s : List ℕ) (bytes : (i : ℕ) → get_or s i 0 < 256) where
       let above = bit_and (word k (suc at) s) (each k 124) + each k 124 in
       let low : bit_and b 124 + 124 < 256 = omega (arith, and_le_r b 124) in
       let same : bit_and (word (suc k) at s) (each (suc k) 124) + each (suc k) 124
-          ≡ above * 256 + (bit_and b 124 + 124) =
+      ≡ above * 256 + (bit_and b 124 + 124) =
       rw (and_block 8 (word k (suc at) s) (each k 124) b 124 (bytes at) (lit< tt)) (omega arith) in
       let w = set_block above (each k 128) (bit_and b 124 + 124) 128 low (lit< tt) (rw same at h) in
       elim (ℕ_discrete i at) [

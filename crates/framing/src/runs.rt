@@ -17,6 +17,7 @@ fn before(s: &[u8], last: u8) -> usize
 
 // Of eight bytes side by side, bits 2 to 6 of each, and bit 7 of each.
 const BITS_2_TO_6: u64 = 0x7c7c_7c7c_7c7c_7c7c;
+
 const BIT_7: u64 = 0x8080_8080_8080_8080;
 
 // True only if eight bytes are neither STX nor ETX: some bit of 2 to 6 is set in each, so that adding all of these to
@@ -24,7 +25,7 @@ const BIT_7: u64 = 0x8080_8080_8080_8080;
 fn are_plain(s: [u8; 8]) -> bool
     ensures { result ≡ true → before 3 s ≡ 8 }
 {
-    let bytes = bits::join_eight(s[0], s[1], s[2], s[3], s[4], s[5], s[6], s[7]);
+    let bytes = bits::join_eight(s);
     ((bytes & BITS_2_TO_6) + BITS_2_TO_6) & BIT_7 == BIT_7
 }
 

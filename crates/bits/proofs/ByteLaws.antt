@@ -37,7 +37,8 @@ word (suc k) at s = word k (suc at) s * 256 + get_or s at 0
 
 -- what `join_eight` makes of eight bytes of a list
 pub word_eight : (s : List ℕ) (at : ℕ)
-    → ((((((get_or s (at + 7) 0 * 256 + get_or s (at + 6) 0) * 256 + get_or s (at + 5) 0) * 256 + get_or s (at + 4) 0) * 256
-    + get_or s (at + 3) 0) * 256 + get_or s (at + 2) 0) * 256 + get_or s (at + 1) 0) * 256 + get_or s at 0 ≡ word 8 at s
+    → ((((((get_or s (at + 7) 0 * 256 + get_or s (at + 6) 0) * 256 + get_or s (at + 5) 0) * 256
+    + get_or s (at + 4) 0) * 256 + get_or s (at + 3) 0) * 256 + get_or s (at + 2) 0) * 256
+    + get_or s (at + 1) 0) * 256 + get_or s at 0 ≡ word 8 at s
 word_eight s at =
     rw (add-suc at 6, add-suc at 5, add-suc at 4, add-suc at 3, add-suc at 2, add-suc at 1, add-one at) (omega arith)

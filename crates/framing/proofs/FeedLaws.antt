@@ -1,13 +1,13 @@
 -- Laws of the feed over a list, at a place i of it.
-use Prim.Native.Nat.{ℕ, suc, ◌+◌, ◌≤◌, ◌<◌, ◌-◌}
+use Prim.Native.Nat.{ℕ, suc, ◌+◌, ◌≤◌, ◌-◌}
 use native.Mathlib.Omega.{arith}
-use native.Mathlib.Numerals.{add-one, one-add}
-use native.Mathlib.Nat.{add-zero, zero-add, add_assoc}
+use native.Mathlib.Numerals.{one-add}
+use native.Mathlib.Nat.{add-zero, zero-add, add_assoc, sub-zero, sub_self}
 use mathlib.Core.Path.{◌≡◌, refl, sym, ap, ◌∙◌}
 use mathlib.Core.Bool.{Bool, true, false, cond, true≢false}
-use mathlib.Core.List.{List, ◌∷◌}
-use lib.ListN.{length, get_or, take, drop, length-drop, drop_of_length-le}
-use lib.Seq.{drop-cons, drop-drop, take_all}
+use mathlib.Core.List.{List, [], ◌∷◌}
+use lib.ListN.{length, take, drop, length-drop, drop_of_length-le}
+use lib.Seq.{take_all}
 use Rattle.framing.specs.declared.Framer.{Framer}
 use Rattle.framing.specs.declared.Event.{Event}
 use Rattle.framing.specs.declared.Event.TheVariants.{Nothing, Complete, Dropped}
@@ -70,43 +70,37 @@ module _ (f g : Framer) (a : Event) (b : ℕ) (s : List ℕ) (step : step_of f b
 pub rest : (s : List ℕ) (i : ℕ) → take (length s - i) (drop i s) ≡ drop i s
 rest s i = take_all (length s - i) (drop i s) (omega (arith, length-drop i s))
 
-module _ (f : Framer) (s : List ℕ) where
-  pub taken_none : Taken f s 0 f
-  taken_none = record { within = omega arith; goes = simp after_taking_zero }
+pub taken_none : (f : Framer) (s : List ℕ) → Taken f s f s
+taken_none f s = record { within = omega arith; goes = simp (sub_self, after_taking_zero) }
 
-  module _ (i : ℕ) (g : Framer) (t : Taken f s i g) where
-    -- what is taken of the rest is taken of the whole
-    pub taken_more : (n : ℕ) (h : Framer) → Taken g (take (length s - i) (drop i s)) n h → Taken f s (i + n) h
-    taken_more n h part =
-        let u : Taken g (drop i s) n h = rw (rest s i) at part in
-        record {
-          within = omega (arith, length-drop i s);
-          goes = t.goes ∙ ap (after_taking i) u.goes ∙ simp (after_taking_twice, drop-drop);
-        }
+module _ (f : Framer) (s : List ℕ) (g : Framer) where
+  -- what is taken of the rest is taken of the whole
+  pub taken_more : (t : List ℕ) → Taken f s g t → (h : Framer) (u : List ℕ) → Taken g t h u → Taken f s h u
+  taken_more t w h u v =
+      let e : (length s - length t) + (length t - length u) ≡ length s - length u = omega (arith, w.within, v.within) in
+      record {
+        within = omega (arith, w.within, v.within);
+        goes = w.goes ∙ ap (after_taking (length s - length t)) v.goes ∙ simp (after_taking_twice, e);
+      }
 
-    pub taken_end : length s ≤ i → feed_of f s ≡ record { framer = g; event = Nothing; taken = i }
-    unfolding after_taking
-    taken_end q = t.goes ∙ ap (after_taking i) (feed_end g s i q) ∙ simp add-zero
+  pub taken_end : (t : List ℕ) → Taken f s g t → length t ≡ 0
+      → feed_of f s ≡ record { framer = g; event = Nothing; taken = length s }
+  unfolding after_taking feed_of
+  taken_end [] w e = w.goes ∙ simp (sub-zero, add-zero)
+  taken_end (b ∷ t) w e = absurd (omega arith)
 
-    module _
-        (h : Framer)
-        (a : Event)
-        (q : i < length s)
-        (step : step_of g (get_or s i 0) ≡ record { framer = h; event = a })
-      where
-        at_place : feed_of g (drop i s) ≡ feed_of g (get_or s i 0 ∷ drop (i + 1) s)
-        at_place = rw (add-one, drop-cons s i 0)
+  module _
+      (b : ℕ) (t : List ℕ) (w : Taken f s g (b ∷ t)) (h : Framer) (a : Event)
+      (step : step_of g b ≡ record { framer = h; event = a })
+    where
+      pub taken_step : is_nothing a ≡ true → Taken f s h t
+      taken_step quiet =
+          let e : suc (length t) - length t ≡ 1 = omega arith in
+          taken_more (b ∷ t) w h t (record { within = omega arith; goes = rw e (feed_on g h a b t step quiet) })
 
-        pub taken_step : is_nothing a ≡ true → Taken f s (i + 1) h
-        taken_step quiet =
-            record {
-              within = omega arith;
-              goes =
-                  t.goes ∙ ap (after_taking i) (at_place ∙ feed_on g h a (get_or s i 0) (drop (i + 1) s) step quiet)
-                  ∙ simp after_taking_twice;
-            }
-
-        pub taken_stop : is_nothing a ≡ false → feed_of f s ≡ record { framer = h; event = a; taken = i + 1 }
-        unfolding after_taking
-        taken_stop loud =
-            t.goes ∙ ap (after_taking i) (at_place ∙ feed_stop g h a (get_or s i 0) (drop (i + 1) s) step loud)
+      pub taken_stop : is_nothing a ≡ false
+          → feed_of f s ≡ record { framer = h; event = a; taken = length s - length t }
+      unfolding after_taking
+      taken_stop loud =
+          let e : length s - suc (length t) + 1 ≡ length s - length t = omega (arith, w.within) in
+          w.goes ∙ ap (after_taking (length s - suc (length t))) (feed_stop g h a b t step loud) ∙ rw e refl

@@ -49,7 +49,8 @@ module _ (rest : List ℕ) where
 
   finds_rest : (body x bytes : List ℕ) (count n : ℕ) → length bytes ≡ 66 → n ≡ count + length body + 1 → n ≤ 66
       → take count bytes ≡ x → all_plain body ≡ true
-      → FindsRest (x ++ (body ++ 3 ∷ [])) n (length body + 1) (feed_of (framer_of bytes count Inside) (body ++ 3 ∷ rest))
+      → FindsRest (x ++ (body ++ 3 ∷ [])) n (length body + 1)
+      (feed_of (framer_of bytes count Inside) (body ++ 3 ∷ rest))
   unfolding after_taking
   finds_rest [] x bytes count n size e few kept plain = finds_end x bytes count n size (omega arith) few kept
   finds_rest (b ∷ body) x bytes count n size e few kept plain =
@@ -85,7 +86,8 @@ module _ (rest : List ℕ) where
       let p = plain_cons b body plain in
       rw (suc-eq-add-one (length body))
       (drops_more (framer_of bytes count Overlong) (framer_of bytes count Overlong) b (length body + 1)
-      (body ++ 3 ∷ rest) (still_overlong bytes count few b p.0) (drops_overlong body bytes count few p.1))
+      (body ++ 3 ∷ rest) (still_overlong (framer_of bytes count Overlong) refl few b p.0)
+      (drops_overlong body bytes count few p.1))
 
   -- inside with 66 kept
   drops_full : (body bytes : List ℕ) (count : ℕ) → count ≡ 66 → all_plain body ≡ true

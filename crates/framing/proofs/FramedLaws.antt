@@ -33,10 +33,10 @@ kept_more bytes count b x room e =
     rw (add-one, take-suc-set bytes count b room) (ap (λ (l : List ℕ). l ++ b ∷ []) e)
 
 outside_inside : {A : Type 0} → Outside ≡ Inside → A
-outside_inside e = let z : ◌≡◌ {A = ℕ} 0 1 = cc in absurd (omega arith)
+outside_inside e = absurd cc
 
 overlong_inside : {A : Type 0} → Overlong ≡ Inside → A
-overlong_inside e = let z : ◌≡◌ {A = ℕ} 0 1 = cc in absurd (omega arith)
+overlong_inside e = absurd cc
 
 module _ (p : List ℕ) (f : Framer) (b : ℕ) (w : Reached p f) where
   reached_stx : b ≡ 2 → Reached (p ++ b ∷ []) (stx f).framer

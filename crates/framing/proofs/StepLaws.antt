@@ -1,7 +1,7 @@
 -- Laws of the single step.
 use Prim.Native.Nat.{ℕ, ◌+◌, ◌<◌, ◌≤◌}
 use native.Mathlib.Omega.{arith}
-use mathlib.Core.Path.{◌≡◌, refl}
+use mathlib.Core.Path.{◌≡◌, refl, sym, ap, ◌∙◌}
 use mathlib.Core.Bool.{Bool, true, false, cond, ◌||◌, true≢false}
 use mathlib.Core.List.{List}
 use lib.Dec.{eqb, ltb}
@@ -50,11 +50,11 @@ inside_mode count mode h = go (ltb 66 count) (ltb count 66) refl mode h
   where
     go : (t u : Bool) → ltb count 66 ≡ u → (m : Mode)
         → cond t Outside (when_inside m u) ≡ Inside → (m ≡ Inside) × (count < 66)
-    go true u e m h = let z : ◌≡◌ {A = ℕ} 0 1 = cc in absurd (omega arith)
-    go false u e Outside h = let z : ◌≡◌ {A = ℕ} 0 1 = cc in absurd (omega arith)
+    go true u e m h = absurd cc
+    go false u e Outside h = absurd cc
     go false true e Inside h = (refl, ltb-true count 66 e)
-    go false false e Inside h = let z : ◌≡◌ {A = ℕ} 0 1 = cc in absurd (omega arith)
-    go false u e Overlong h = let z : ◌≡◌ {A = ℕ} 0 1 = cc in absurd (omega arith)
+    go false false e Inside h = absurd cc
+    go false u e Overlong h = absurd cc
 
 -- if a byte is kept there is room for it
 pub inside_room : (count : ℕ) (mode : Mode) → effective_mode count mode ≡ Inside → count < 66
@@ -66,8 +66,8 @@ unfolding effective_mode
 inside_not_outside count few h = go (ltb count 66) (simp (le-ltb 66 count few) at h)
   where
     go : (u : Bool) → when_inside Inside u ≡ Outside → ⊥
-    go true h = let z : ◌≡◌ {A = ℕ} 0 1 = cc in omega arith
-    go false h = let z : ◌≡◌ {A = ℕ} 0 1 = cc in omega arith
+    go true h = cc
+    go false h = cc
 
 -- what holds of a step's result, by the byte and the effective mode
 pub step_cases : (P : StepResult → Type 0) (f : Framer) (b : ℕ) → (b ≡ 2 → P (stx f))
@@ -85,10 +85,10 @@ step_cases P f b first last other = go (eqb b 2) (eqb b 3) refl refl
     go false false p q = other (simp (p, q)) (effective_mode f.count f.mode) refl
 
 pub nothing_complete : {A : Type 0} {n : ℕ} → Nothing ≡ Complete n → A
-nothing_complete e = let z : ◌≡◌ {A = ℕ} 0 1 = cc in absurd (omega arith)
+nothing_complete e = absurd cc
 
 pub dropped_complete : {A : Type 0} {n : ℕ} → Dropped ≡ Complete n → A
-dropped_complete e = let z : ◌≡◌ {A = ℕ} 0 1 = cc in absurd (omega arith)
+dropped_complete e = absurd cc
 
 -- a complete string has 1 to 66 bytes, from any state
 pub step_complete : (f : Framer) (b n : ℕ) → (step_of f b).event ≡ Complete n → (1 ≤ n) × (n ≤ 66)
@@ -143,8 +143,10 @@ module _ (f : Framer) (b : ℕ) where
 pub still_outside : (f : Framer) → effective_mode f.count f.mode ≡ Outside → Still f 2
 still_outside f at b h = step_outside f b at (neither (eqb b 2) (eqb b 2) h).0
 
-pub still_overlong : (bytes : List ℕ) (count : ℕ) → count ≤ 66 → Still (framer_of bytes count Overlong) 3
-still_overlong bytes count few b h = step_other _ b Overlong (mode_overlong count few) h
+pub still_overlong : (f : Framer) → f.mode ≡ Overlong → f.count ≤ 66 → Still f 3
+still_overlong f overlong few b h =
+    step_other f b Overlong (rw overlong (mode_overlong f.count few)) h
+    ∙ ap (λ (m : Mode). record { framer = in_mode f m; event = Nothing }) (sym overlong)
 
 -- it is kept if there is room
 pub step_keeps : (bytes : List ℕ) (count b : ℕ) → count < 66 → eqb b 2 || eqb b 3 ≡ false

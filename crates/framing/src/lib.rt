@@ -2,11 +2,18 @@
 #![tactic(auto)]
 
 ghost use Rattle.std.specs.Prelude.{◌≡◌, take};
-ghost use Rattle.framing.specs.Step.{start, framer_of, step_of};
+ghost use Rattle.framing.specs.Step.{start, step_of};
 ghost use Rattle.framing.specs.Feed.{feed_of};
 
 mod runs;
 mod single;
+
+// The bytes that begin and end a string, and how many bytes of one are kept.
+const STX: u8 = 2;
+
+const ETX: u8 = 3;
+
+const ROOM: usize = 66;
 
 // Where a state stands.
 #[derive(Clone, Copy)]
@@ -16,7 +23,8 @@ pub enum Mode {
     Overlong,
 }
 
-// The state between two bytes: of a string that goes on, the first `count` of `bytes` are kept.
+// The state between two bytes: of a string that goes on, the first `count` of `bytes` are kept. A state that C lends
+// may have a count above 66, so the count stands beside the bytes, with no bound.
 #[derive(Clone, Copy)]
 pub struct Framer {
     pub bytes: [u8; 66],
@@ -25,7 +33,7 @@ pub struct Framer {
 }
 
 // What a byte ends: nothing yet, a kept string of so many bytes, or an overlong string.
-#[derive(Clone, Copy)]
+#[derive(Clone, Copy, PartialEq, Eq, Debug)]
 pub enum Event {
     Nothing,
     Complete(usize),
@@ -53,77 +61,44 @@ impl Framer {
         ensures { result ≡ start }
     {
         Framer {
-            bytes: [0u8; 66],
+            bytes: [0; 66],
             count: 0,
             mode: Mode::Outside,
         }
     }
 
     // The state after the byte b, with what the byte ends.
-    pub fn step(self, b: u8) -> StepResult
+    pub fn step(mut self, b: u8) -> StepResult
         ensures { result ≡ step_of self b }
     {
-        let mut bytes = self.bytes;
-        let mode = self.mode;
-        let moved = single::advance(&mut bytes, self.count, mode, b);
-        let mode = moved.mode;
-        let event = moved.event;
-        let framer = Framer {
-            bytes,
-            count: moved.count,
-            mode,
-        };
-        StepResult { framer, event }
+        let event = self.advance(b);
+        StepResult {
+            framer: self,
+            event,
+        }
     }
 
     // Takes bytes of s up to its end, to `limit` bytes, or to the first that ends a string.
-    pub fn feed(self, s: &[u8], limit: usize) -> FeedResult
+    pub fn feed(mut self, s: &[u8], limit: usize) -> FeedResult
         ensures { result ≡ feed_of self (take limit s.now) }
     {
-        if limit < s.len() {
-            self.feed_all(&s[..limit])
-        } else {
-            self.feed_all(s)
-        }
-    }
-
-    // The same with no limit.
-    fn feed_all(self, s: &[u8]) -> FeedResult
-        ensures { result ≡ feed_of self s.now }
-    {
-        let mut bytes = self.bytes;
-        let mut count = self.count;
-        let mut mode = self.mode;
-        let mut i = 0;
-        while i < s.len() {
-            let passed = runs::pass(&mut bytes, count, mode, &s[i..]);
-            count = passed.count;
-            i += passed.taken;
-            if s.len() <= i {
-                return fed_to(bytes, count, mode, Event::Nothing, i);
+        let s = &s[..limit.min(s.len())];
+        let mut rest = self.pass(s);
+        while let Some((b, after)) = rest.split_first() {
+            let event = self.advance(*b);
+            if event != Event::Nothing {
+                return FeedResult {
+                    framer: self,
+                    event,
+                    taken: s.len() - after.len(),
+                };
             }
-            let moved = single::advance(&mut bytes, count, mode, s[i]);
-            count = moved.count;
-            let next = moved.mode;
-            mode = next;
-            i += 1;
-            let event = moved.event;
-            if !single::is_nothing(event) {
-                return fed_to(bytes, count, mode, event, i);
-            }
+            rest = self.pass(after);
         }
-        fed_to(bytes, count, mode, Event::Nothing, i)
-    }
-}
-
-// What a feed returns that has taken so many bytes.
-fn fed_to(bytes: [u8; 66], count: usize, mode: Mode, event: Event, taken: usize) -> FeedResult
-    ensures { result ≡ record { framer = framer_of bytes count mode; event = event; taken = taken } }
-{
-    let framer = Framer { bytes, count, mode };
-    FeedResult {
-        framer,
-        event,
-        taken,
+        FeedResult {
+            framer: self,
+            event: Event::Nothing,
+            taken: s.len(),
+        }
     }
 }

@@ -1,18 +1,14 @@
-use native.Mathlib.Omega.{arith}
-use mathlib.Core.Path.{◌∙◌}
-use lib.Bits.{and_le_r}
+use mathlib.Core.Path.{◌≡◌, ◌∙◌}
+use Prim.Native.Nat.{ℕ, ◌<◌}
+use lib.ListN.{length, get_or}
 use borrow.Author.Tests.{eqb-true}
+use Rattle.std.proofs.Common.{rules}
 use Rattle.bits.proofs.ByteLaws.{word_eight}
 use Rattle.framing.proofs.PlainLaws.{eight_plain}
 use Rattle.framing.proofs.runs.are_plain.Goals as goal
 
-pub overflow_add-result : goal.overflow_add-result
-overflow_add-result c = omega (arith, and_le_r c.join_eight-bytes.result 8970181431921507452)
-
 pub returns : goal.returns
 returns c h =
-    let k = c in
-    let s = k in
-    let bytes = s.args.s.now in
-    eight_plain bytes (λ i. omega (arith, k.type_inv.s i)) s.args.at _
-    (c.join_eight-bytes.ensures ∙ word_eight bytes s.args.at) (eqb-true _ _ h)
+    let f : (i : ℕ) → get_or c.args.s i 0 < 256 = λ i. search rules in
+    let l : length c.args.s ≡ 8 = search rules in
+    eight_plain c.args.s f _ l (c.join_eight-bytes.ensures ∙ word_eight c.args.s 0) (eqb-true _ _ h)

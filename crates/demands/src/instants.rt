@@ -7,7 +7,7 @@ ghost use Rattle.demands.specs.Lines.{instant_lines, date_lines};
 ghost use Rattle.demands.specs.Instant.{InstantOf};
 ghost use Rattle.demands.specs.Exactly.{ReadsExactly};
 
-use clock_time::{ClockTime, Error};
+use clock_time::{ClockTime, Date, Error};
 
 fn unix_time(t: ClockTime) -> Result<i64, Error>
     ensures demand_1 { RefusesInOrder (instant_lines t) (23 ∷ []) (answer_of result) }
@@ -16,16 +16,16 @@ fn unix_time(t: ClockTime) -> Result<i64, Error>
     calendar::unix_time::unix_time(t)
 }
 
-fn day_number(year: u16, month: u8, day: u8) -> Result<u32, Error>
-    ensures demand_1 { RefusesInOrder (date_lines year month day) (5 ∷ []) (answer_of result) }
-    ensures answer { ReadsExactly (λ n. DayAfter n year month day × (year ≤ 2069)) (answer_of result) }
+fn day_number(date: Date) -> Result<u32, Error>
+    ensures demand_1 { RefusesInOrder (date_lines date.year date.month date.day) (5 ∷ []) (answer_of result) }
+    ensures answer { ReadsExactly (λ n. DayAfter n date.year date.month date.day × (date.year ≤ 2069)) (answer_of result) }
 {
-    calendar::date::day_number(year, month, day)
+    calendar::date::day_number(date)
 }
 
-fn weekday_of(year: u16, month: u8, day: u8) -> Result<u32, Error>
-    ensures demand_1 { RefusesInOrder (date_lines year month day) (5 ∷ []) (answer_of result) }
-    ensures answer { ReadsExactly (λ w. OnWeekday year month day w × (year ≤ 2069)) (answer_of result) }
+fn weekday_of(date: Date) -> Result<u32, Error>
+    ensures demand_1 { RefusesInOrder (date_lines date.year date.month date.day) (5 ∷ []) (answer_of result) }
+    ensures answer { ReadsExactly (λ w. OnWeekday date.year date.month date.day w × (date.year ≤ 2069)) (answer_of result) }
 {
-    calendar::date::weekday_of(year, month, day)
+    calendar::date::weekday_of(date)
 }

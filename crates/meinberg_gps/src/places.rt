@@ -1,5 +1,5 @@
 // Whether a GPS string has the bytes that its layout asks for, and the error of one that has not.
-ghost use Rattle.std.specs.Prelude.{◌≡◌, true, length};
+ghost use Rattle.std.specs.Prelude.{◌≡◌, true};
 ghost use Rattle.clock_time.specs.Errors.{error_number};
 ghost use Rattle.clock_time.specs.Lists.{slice};
 ghost use Rattle.layout.specs.Layout.{fits_from, layout_error};
@@ -11,8 +11,7 @@ use clock_time::Error;
 const GPS: [u8; 66] = *b"\x0200.00.00; 0; 00:00:00; ?00:00; uvxyzab; ??.????? ???.????? ????m\x03";
 
 // Whether every fixed byte after the flags stands.
-fn rest_fits(s: &[u8]) -> bool
-    requires { length s.now ≡ 66 }
+fn rest_fits(s: &[u8; 66]) -> bool
     ensures { result ≡ fits_from true 40 (slice 40 26 gps_layout) s.now }
 {
     (s[40] == b' ')
@@ -25,8 +24,7 @@ fn rest_fits(s: &[u8]) -> bool
 }
 
 // Whether every place has a byte that may stand there.
-pub(crate) fn fits(s: &[u8]) -> bool
-    requires { length s.now ≡ 66 }
+pub(crate) fn fits(s: &[u8; 66]) -> bool
     ensures { result ≡ fits_from true 0 gps_layout s.now }
 {
     layout_words::eight_fit(s, 0, *b"\x0200.00.0")

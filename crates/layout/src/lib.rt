@@ -10,6 +10,8 @@ ghost use Rattle.layout.specs.Layout.{layout_error};
 ghost use Rattle.layout.specs.Text.{supported_day, clock_checks, clock_digits};
 ghost use Rattle.calendar.specs.Date.{with_weekday};
 
+pub mod format;
+
 use clock_time::{ClockTime, Error};
 use gregorian::{FIRST_YEAR, LAST_YEAR};
 

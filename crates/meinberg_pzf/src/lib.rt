@@ -1,34 +1,37 @@
 // The Meinberg PZF string.
 #![tactic(auto)]
 
-ghost use Rattle.std.specs.Prelude.{◌≡◌, true, length};
+ghost use Rattle.std.specs.Prelude.{◌≡◌};
 ghost use Rattle.clock_time.specs.Reading.{answer_of};
-ghost use Rattle.clock_time.specs.Errors.{error_number};
-ghost use Rattle.layout.specs.Layout.{FitsLayout, fits_from, layout_error};
-ghost use Rattle.meinberg_pzf.specs.Pzf.{pzf_layout, pzf_offset, pzf_fields, read_pzf};
+ghost use Rattle.layout.specs.Layout.{FitsLayout};
+ghost use Rattle.meinberg_pzf.specs.Pzf.{pzf_layout, pzf_offset, pzf_fields, pzf, read_pzf};
 
 use clock_time::{ClockTime, Error};
 use gregorian::FIRST_YEAR;
+use layout::format::StringFormat;
 
-// The layout as a pattern, as the definition `pzf_layout` has it.
-const PZF: [u8; 32] = *b"\x0200.00.00; 0; 00:00:00; tuvxyza\x03";
+// The format, which has no value.
+struct Pzf;
 
-// Whether every place has a byte that may stand there.
-fn fits(s: &[u8]) -> bool
-    requires { length s.now ≡ 32 }
-    ensures { result ≡ fits_from true 0 pzf_layout s.now }
-{
-    layout_words::eight_fit(s, 0, *b"\x0200.00.0")
-        & layout_words::eight_fit(s, 8, *b"0; 0; 00")
-        & layout_words::eight_fit(s, 16, *b":00:00; ")
-        & layout_words::flags_fit(s, 24, *b"U#*S!AR", 3)
-}
+impl StringFormat<32> for Pzf {
+    type Value = ClockTime;
 
-// The error of a string that does not fit.
-fn first_error(s: &[u8]) -> Error
-    ensures { error_number result ≡ layout_error pzf_layout s.now }
-{
-    layout::layout_error(&PZF, s)
+    ghost format = { pzf };
+
+    fn pattern() -> &'static [u8; 32] {
+        b"\x0200.00.00; 0; 00:00:00; tuvxyza\x03"
+    }
+
+    fn fits(s: &[u8; 32]) -> bool {
+        layout_words::eight_fit(s, 0, *b"\x0200.00.0")
+            & layout_words::eight_fit(s, 8, *b"0; 0; 00")
+            & layout_words::eight_fit(s, 16, *b":00:00; ")
+            & layout_words::flags_fit(s, 24, *b"U#*S!AR", 3)
+    }
+
+    fn read_fitting(s: &[u8; 32]) -> Result<ClockTime, Error> {
+        layout::check_clock(fields(s), false)
+    }
 }
 
 // The UTC offset that the flags t and x stand for.
@@ -44,8 +47,8 @@ pub fn offset_of(utc: bool, summer: bool) -> i16
     60
 }
 
-fn fields(s: &[u8]) -> ClockTime
-    requires { (length s.now ≡ 32) × FitsLayout pzf_layout s.now }
+fn fields(s: &[u8; 32]) -> ClockTime
+    requires { FitsLayout pzf_layout s.now }
     ensures { result ≡ pzf_fields s.now }
 {
     let date = layout_words::numbers_at(s, 1);
@@ -75,10 +78,5 @@ fn fields(s: &[u8]) -> ClockTime
 pub fn read_pzf(s: &[u8]) -> Result<ClockTime, Error>
     ensures { answer_of result ≡ read_pzf s.now }
 {
-    if s.len() == 32 {
-        if fits(s) {
-            return layout::check_clock(fields(s), false);
-        }
-    }
-    Err(first_error(&s[..]))
+    layout::format::read::<32, Pzf>(s)
 }

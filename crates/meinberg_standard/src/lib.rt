@@ -1,41 +1,44 @@
 // The Meinberg standard string.
 #![tactic(auto)]
 
-ghost use Rattle.std.specs.Prelude.{◌≡◌, true, length};
+ghost use Rattle.std.specs.Prelude.{◌≡◌};
 ghost use Rattle.clock_time.specs.Reading.{answer_of};
-ghost use Rattle.clock_time.specs.Errors.{error_number};
-ghost use Rattle.layout.specs.Layout.{FitsLayout, fits_from, layout_error};
-ghost use Rattle.meinberg_standard.specs.Standard.{standard_layout, standard_zone, standard_fields, read_standard};
+ghost use Rattle.layout.specs.Layout.{FitsLayout};
+ghost use Rattle.meinberg_standard.specs.Standard.{standard_layout, standard_zone, standard_fields, standard, read_standard};
 
 use clock_time::{ClockTime, Error};
 use gregorian::FIRST_YEAR;
+use layout::format::StringFormat;
 
-// The layout as a pattern, as the definition `standard_layout` has it.
-const STANDARD: [u8; 32] = *b"\x02D:00.00.00;T:0;U:00.00.00;uvXY\x03";
+// The format, which has no value.
+struct Standard;
 
-// Whether every place has a byte that may stand there.
-fn fits(s: &[u8]) -> bool
-    requires { length s.now ≡ 32 }
-    ensures { result ≡ fits_from true 0 standard_layout s.now }
-{
-    layout_words::eight_fit(s, 0, *b"\x02D:00.00")
-        & layout_words::eight_fit(s, 8, *b".00;T:0;")
-        & layout_words::eight_fit(s, 16, *b"U:00.00.")
-        & ((48 <= s[24]) & (s[24] <= 57))
-        & ((48 <= s[25]) & (s[25] <= 57))
-        & (s[26] == b';')
-        & ((s[27] == b' ') | (s[27] == b'#'))
-        & ((s[28] == b' ') | (s[28] == b'*'))
-        & ((s[29] == b' ') | (s[29] == b'U') | (s[29] == b'S'))
-        & ((s[30] == b' ') | (s[30] == b'!') | (s[30] == b'A'))
-        & (s[31] == 3)
-}
+impl StringFormat<32> for Standard {
+    type Value = ClockTime;
 
-// The error of a string that does not fit.
-fn first_error(s: &[u8]) -> Error
-    ensures { error_number result ≡ layout_error standard_layout s.now }
-{
-    layout::layout_error(&STANDARD, s)
+    ghost format = { standard };
+
+    fn pattern() -> &'static [u8; 32] {
+        b"\x02D:00.00.00;T:0;U:00.00.00;uvXY\x03"
+    }
+
+    fn fits(s: &[u8; 32]) -> bool {
+        layout_words::eight_fit(s, 0, *b"\x02D:00.00")
+            & layout_words::eight_fit(s, 8, *b".00;T:0;")
+            & layout_words::eight_fit(s, 16, *b"U:00.00.")
+            & ((48 <= s[24]) & (s[24] <= 57))
+            & ((48 <= s[25]) & (s[25] <= 57))
+            & (s[26] == b';')
+            & ((s[27] == b' ') | (s[27] == b'#'))
+            & ((s[28] == b' ') | (s[28] == b'*'))
+            & ((s[29] == b' ') | (s[29] == b'U') | (s[29] == b'S'))
+            & ((s[30] == b' ') | (s[30] == b'!') | (s[30] == b'A'))
+            & (s[31] == 3)
+    }
+
+    fn read_fitting(s: &[u8; 32]) -> Result<ClockTime, Error> {
+        layout::check_clock(fields(s), false)
+    }
 }
 
 // The UTC offset that the zone letter stands for.
@@ -51,8 +54,8 @@ pub fn zone_offset(letter: u8) -> i16
     60
 }
 
-fn fields(s: &[u8]) -> ClockTime
-    requires { (length s.now ≡ 32) × FitsLayout standard_layout s.now }
+fn fields(s: &[u8; 32]) -> ClockTime
+    requires { FitsLayout standard_layout s.now }
     ensures { result ≡ standard_fields s.now }
 {
     let date = layout_words::numbers_at(s, 3);
@@ -82,10 +85,5 @@ fn fields(s: &[u8]) -> ClockTime
 pub fn read_standard(s: &[u8]) -> Result<ClockTime, Error>
     ensures { answer_of result ≡ read_standard s.now }
 {
-    if s.len() == 32 {
-        if fits(s) {
-            return layout::check_clock(fields(s), false);
-        }
-    }
-    Err(first_error(&s[..]))
+    layout::format::read::<32, Standard>(s)
 }

@@ -10,7 +10,7 @@ use Rattle.meinberg_pzf.proofs.fields.Goals as goal
 pub returns : goal.returns
 unfolding pzf_fields pzf_layout ascii
 returns c =
-    let h = c.requires.1 in
+    let h = c.requires in
     let f : SFits w16 c.offset_of.result = search sfits_of in
     rw (to_z-of_z f)
     (simp (

@@ -10,7 +10,7 @@ use Rattle.meinberg_standard.proofs.fields.Goals as goal
 pub returns : goal.returns
 unfolding standard_fields standard_layout ascii
 returns c =
-    let h = c.requires.1 in
+    let h = c.requires in
     let f : SFits w16 c.zone_offset.result = search sfits_of in
     rw (to_z-of_z f)
     (simp (

@@ -1,0 +1,42 @@
+// The reader of any format: what a format gives, and the one function that reads its strings.
+ghost use Rattle.std.specs.Prelude.{◌≡◌, true, ◌<◌, ◌^◌};
+ghost use Rattle.clock_time.specs.Reading.{answer_of};
+ghost use Rattle.layout.specs.Layout.{patterned, fits_from, FitsLayout};
+ghost use Rattle.layout.specs.Text.{Format, read_text};
+
+use clock_time::Error;
+
+// A format of strings of N bytes.
+pub trait StringFormat<const N: usize> {
+    // What a string of the format says.
+    type Value;
+
+    ghost format: { Format Self.Value };
+
+    // The layout as a pattern.
+    fn pattern() -> &'static [u8; N]
+        ensures { patterned result.now ≡ format.layout };
+
+    // Whether every place has a byte that may stand there.
+    fn fits(s: &[u8; N]) -> bool
+        ensures { result ≡ fits_from true 0 format.layout s.now };
+
+    // Reads a string that fits its layout.
+    fn read_fitting(s: &[u8; N]) -> Result<Self::Value, Error>
+        requires { FitsLayout format.layout s.now }
+        ensures { answer_of result ≡ read_text format s.now };
+}
+
+// Reads a string of a format. One that does not fit is refused with the error of its layout.
+pub fn read<const N: usize, F: StringFormat<N>>(s: &[u8]) -> Result<F::Value, Error>
+    requires { N < 2 ^ 63 }
+    ensures { answer_of result ≡ read_text F.format s.now }
+{
+    let pattern: &[u8] = F::pattern();
+    if let Some(places) = s.as_array::<N>() {
+        if F::fits(places) {
+            return F::read_fitting(places);
+        }
+    }
+    Err(crate::layout_error(pattern, s))
+}

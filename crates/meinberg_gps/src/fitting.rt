@@ -30,7 +30,8 @@ impl<'a> Fitting<'a> {
     {
         let s = self.s;
         let numbers = layout_words::numbers_at(s, 25);
-        !((numbers.second <= 59) & signed::sign_holds(b'+', b'-', 60 * 14, s[24], self.offset_magnitude()))
+        !((numbers.second <= 59)
+            & signed::sign_holds(b'+', b'-', 60 * 14, s[24], self.offset_magnitude()))
     }
 
     fn offset(self) -> i16

@@ -6,10 +6,10 @@ ghost use Rattle.clock_time.specs.Reading.{answer_of};
 ghost use Rattle.meinberg_gps.specs.Gps.{read_gps};
 
 use clock_time::{ClockTime, Error, Position};
-use fitting::Fitting;
+use format::Gps;
 
 mod fitting;
-mod places;
+mod format;
 
 // What a GPS string says: a clock time and the clock's position.
 #[derive(Clone, Copy)]
@@ -24,10 +24,5 @@ pub struct GpsTime {
 pub fn read_gps(s: &[u8]) -> Result<GpsTime, Error>
     ensures { answer_of result ≡ read_gps s.now }
 {
-    if let Some(s) = s.as_array::<66>() {
-        if places::fits(s) {
-            return Fitting { s }.read();
-        }
-    }
-    Err(places::first_error(s))
+    layout::format::read::<66, Gps>(s)
 }

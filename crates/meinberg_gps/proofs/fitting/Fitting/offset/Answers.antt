@@ -11,17 +11,18 @@ use Rattle.signed.proofs.SignedLaws.{signed_fits}
 use Rattle.meinberg_gps.proofs.OffsetLaws.{offset_small}
 use Rattle.meinberg_gps.proofs.fitting.Fitting.offset.Goals as goal
 
+-- four digits give a number that fits
+held : (c : goal.After-with_sign) → SFits w16 c.with_sign.result
+held c =
+    let n = c.offset_magnitude.result in
+    let small : n < 2 ^ 15 = omega (arith, offset_small c.args.self.fits, c.offset_magnitude.ensures) in
+    rw c.with_sign.ensures (signed_fits w16 (eqb (get_or c.args.self.s.now 24 0) 45) n small)
+
 pub overflow_cast-result : goal.overflow_cast-result
-overflow_cast-result c =
-    let held : SFits w16 c.with_sign.result =
-    let magnitude = c.offset_magnitude in let h : magnitude.result < 2 ^ 15 = omega (arith, offset_small c.args.self.fits, magnitude.ensures) in rw c.with_sign.ensures (signed_fits w16 (eqb (get_or c.args.self.s.now 24 0) 45) magnitude.result h) in
-    let f : SFits w64 c.with_sign.result = search sfits_of in
-    rw (to_z-of_z f) held
+overflow_cast-result c = let f : SFits w64 c.with_sign.result = search sfits_of in rw (to_z-of_z f) (held c)
 
 pub returns : goal.returns
 unfolding offset_of
 returns c =
-    let held : SFits w16 c.with_sign.result =
-    let magnitude = c.offset_magnitude in let h : magnitude.result < 2 ^ 15 = omega (arith, offset_small c.args.self.fits, magnitude.ensures) in rw c.with_sign.ensures (signed_fits w16 (eqb (get_or c.args.self.s.now 24 0) 45) magnitude.result h) in
     let f : SFits w64 c.with_sign.result = search sfits_of in
-    rw (to_z-of_z f, to_z-of_z held, c.with_sign.ensures, c.offset_magnitude.ensures)
+    rw (to_z-of_z f, to_z-of_z (held c), c.with_sign.ensures, c.offset_magnitude.ensures)

@@ -4,7 +4,7 @@ use Rattle.clock_time.specs.Lists.{ascii, slice}
 use Rattle.layout.specs.Layout.{allowed, fits_from}
 use Rattle.layout.proofs.PartLaws.{settled_fit_lem}
 use Rattle.meinberg_gps.specs.Gps.{gps_layout}
-use Rattle.meinberg_gps.proofs.places.rest_fits.Goals as goal
+use Rattle.meinberg_gps.proofs.format.rest_fits.Goals as goal
 
 pub returns : goal.returns
 unfolding fits_from allowed ascii gps_layout

@@ -7,6 +7,7 @@ ghost use Rattle.elv_dcf7000.specs.Elv.{flag_sum, text_with, elv_text, elv_repre
 
 use clock_time::{ClockTime, Error};
 
+// The number of the flags.
 fn flag_sum(summer: bool, change: bool, unsynchronised: bool) -> u8
     ensures { result ≡ flag_sum summer change unsynchronised }
 {
@@ -44,6 +45,7 @@ fn text_with(t: ClockTime, flags: u8) -> [u8; 21]
     ]
 }
 
+// The only string that could be read as `t`.
 fn text_of(t: ClockTime) -> [u8; 21]
     ensures { result ≡ elv_text t }
 {
@@ -55,8 +57,8 @@ fn text_of(t: ClockTime) -> [u8; 21]
 fn is_representable(t: ClockTime) -> bool
     ensures { result ≡ elv_representable t }
 {
-    let zone = clock_time::same_offset(elv_dcf7000::offset_of(t.summer_time), t.utc_offset);
-    let weekday = calendar::date::weekday_or_zero(t.year, t.month, t.day);
+    let zone = clock_time::cet_offset(t.summer_time) == t.utc_offset;
+    let weekday = calendar::date::weekday_or_zero(t.date());
     zone & (weekday == t.weekday) & !t.unverified & !t.leap_second_announced & !t.alternate_antenna
 }
 

@@ -2,7 +2,7 @@
 use Rattle.std.specs.Prelude.{ℕ, ◌+◌, ◌*◌, Bool, false, not, ◌&&◌, List, [], ◌∷◌, ◌++◌, leb, eqb, get_or, ℤ}
 use Prim.Native.Char.{code}
 use Rattle.std.specs.Bool.{beq}
-use Rattle.clock_time.specs.Errors.{Answer, accepted, refused, given, checked}
+use Rattle.clock_time.specs.Errors.{Answer, given, checked}
 use Rattle.clock_time.specs.Same.{same_time, same_position}
 use Rattle.clock_time.specs.Writing.{Written}
 use Rattle.clock_time.specs.declared.ClockTime.{ClockTime}
@@ -108,4 +108,3 @@ read_gps s = read_text gps s
 -- the writer, by the rule for every time string
 unfoldable pub write_gps : GpsTime → List ℕ → Written
 write_gps g buffer = write_text written_gps g buffer
-

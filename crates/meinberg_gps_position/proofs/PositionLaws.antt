@@ -3,8 +3,8 @@ use Prim.Native.Nat.{ℕ, ◌≤◌, ◌<◌}
 use Prim.Native.Char.{code}
 use native.Mathlib.Omega.{arith}
 use mathlib.Core.Path.{◌≡◌, ◌∙◌}
-use mathlib.Core.Bool.{true, false, ◌&&◌, and-false}
-use mathlib.Core.List.{List}
+use mathlib.Core.Bool.{Bool, true, false, ◌&&◌, and-false}
+use mathlib.Core.List.{List, ◌∷◌}
 use lib.ListN.{length, get_or, get_or-eq_default}
 use borrow.Author.Tests.{le-leb, not-false}
 use Rattle.clock_time.specs.Errors.{Answer, refused}
@@ -19,7 +19,7 @@ use Rattle.meinberg_gps_position.specs.Position.{position_fault}
 use Rattle.meinberg_gps_position.specs.Position.{angle_of, position_of, read_position, position_from}
 use Rattle.meinberg_gps_position.specs.Position.{position_representable}
 use Rattle.signed.proofs.SignedLaws.{sign_limit, signed_magnitude}
-use Rattle.meinberg_gps_position.proofs.AlignedLaws.{digits_numeric, aligned_numeric, aligned_end, value_small}
+use Rattle.meinberg_gps_position.proofs.AlignedLaws.{digits_numeric, aligned_numeric, aligned_blank, aligned_end, value_small}
 
 -- the digits of an angle, before and after its point
 pub record DigitsOf (a : Angle) (s : List ℕ) : Type 0 where
@@ -59,6 +59,14 @@ position_digits_lem s h =
 
 -- ---- what was read, or 9
 module _ (s : List ℕ) where
+  -- the code's tests of the two angles and the height, with a blank before the places of latitude
+  pub digits_tested : {lat lon height : Bool}
+      → lat ≡ (right_aligned (32 ∷ whole_part latitude s) && are_digits (decimals latitude s))
+      → lon ≡ (right_aligned (whole_part longitude s) && are_digits (decimals longitude s))
+      → height ≡ right_aligned (slice 60 4 s) → (lat && lon && height) ≡ position_digits s
+  unfolding position_digits angle_digits
+  digits_tested lat lon height = rw (lat, lon, height, aligned_blank)
+
   pub position_no_digits : position_digits s ≡ false → refused 9 ≡ read_position s
   unfolding read_position position_fault
   position_no_digits h = simp h

@@ -4,7 +4,7 @@ use Prim.Native.Char.{code}
 use native.Mathlib.Omega.{arith}
 use mathlib.Core.Path.{◌≡◌, refl}
 use mathlib.Core.Bool.{true, false, ◌&&◌}
-use mathlib.Core.List.{List, ◌++◌}
+use mathlib.Core.List.{List}
 use lib.Dec.{leb, eqb, lit<}
 use lib.ListN.{get_or}
 use lib.IntN.{ℤ, nat_abs}
@@ -21,7 +21,7 @@ use Rattle.meinberg_gps_position.specs.Aligned.{padded, aligned}
 use Rattle.meinberg_gps_position.specs.Position.{Angle, latitude, longitude, whole_part, decimals, hemisphere}
 use Rattle.meinberg_gps_position.specs.Position.{angle_magnitude, angle_digits, position_digits, in_range}
 use Rattle.meinberg_gps_position.specs.Position.{position_fault}
-use Rattle.meinberg_gps_position.specs.Position.{angle_of, position_of, angle_bytes, angle_text, position_text}
+use Rattle.meinberg_gps_position.specs.Position.{angle_of, position_of, angle_bytes, position_text}
 use Rattle.meinberg_gps_position.specs.Position.{position_representable}
 use Rattle.meinberg_gps_position.proofs.AlignedWrittenLaws.{value_aligned, aligned_right, four_digits}
 use Rattle.meinberg_gps_position.proofs.AlignedWrittenLaws.{value_after}
@@ -55,13 +55,6 @@ angle_read a some room differ z small s h =
     }
 
 -- ---- the position
--- the code's bytes, one by one: latitude is written with a third place before its point, which is left out
-pub position_parts : (p : Position) {x y : ℤ} {n e h : List ℕ} → n ≡ angle_bytes 3 (code "N") (code "S") x
-    → e ≡ angle_text longitude y → h ≡ aligned 4 p.height → x ≡ p.latitude → y ≡ p.longitude
-    → slice 1 8 n ++ ascii " " ++ slice 0 9 e ++ ascii " " ++ slice 0 4 h ≡ position_text p
-unfolding position_text angle_bytes aligned padded digits ascii
-position_parts p a b c same_latitude same_longitude = rw (a, b, c, same_latitude, same_longitude)
-
 module _ (p : Position) (s : List ℕ) (e : slice 41 23 s ≡ position_text p) where
   latitude_spelled : Spelled latitude p.latitude s
   unfolding position_text angle_bytes aligned padded digits ascii

@@ -1,7 +1,7 @@
 -- The position of a GPS string: two angles and a height.
 use Rattle.std.specs.Prelude.{ℕ, ◌+◌, ◌/◌, Bool, not, ◌&&◌, List, [], ◌∷◌, ◌++◌, leb, eqb, get_or, ℤ, nat_abs}
 use Prim.Native.Char.{Char, code}
-use Rattle.clock_time.specs.Errors.{Answer, accepted, refused, given, checked}
+use Rattle.clock_time.specs.Errors.{Answer, given, checked}
 use Rattle.clock_time.specs.declared.Position.{Position}
 use Rattle.clock_time.specs.Lists.{ascii, slice}
 use Rattle.decimal.specs.Decimal.{value, digits}

@@ -11,74 +11,13 @@ use signed::offset::OffsetText;
 fn text_with(pzf: [u8; 32], offset: OffsetText, leap: u8, position: PositionText) -> [u8; 66]
     ensures { result ≡ text_with pzf offset leap position }
 {
-    [
-        pzf[0],
-        pzf[1],
-        pzf[2],
-        pzf[3],
-        pzf[4],
-        pzf[5],
-        pzf[6],
-        pzf[7],
-        pzf[8],
-        pzf[9],
-        pzf[10],
-        pzf[11],
-        pzf[12],
-        pzf[13],
-        pzf[14],
-        pzf[15],
-        pzf[16],
-        pzf[17],
-        pzf[18],
-        pzf[19],
-        pzf[20],
-        pzf[21],
-        pzf[22],
-        pzf[23],
-        offset[0],
-        offset[1],
-        offset[2],
-        offset[3],
-        offset[4],
-        offset[5],
-        b';',
-        b' ',
-        pzf[25],
-        pzf[26],
-        pzf[27],
-        pzf[28],
-        pzf[29],
-        pzf[30],
-        leap,
-        b';',
-        b' ',
-        position[0],
-        position[1],
-        position[2],
-        position[3],
-        position[4],
-        position[5],
-        position[6],
-        position[7],
-        position[8],
-        position[9],
-        position[10],
-        position[11],
-        position[12],
-        position[13],
-        position[14],
-        position[15],
-        position[16],
-        position[17],
-        position[18],
-        position[19],
-        position[20],
-        position[21],
-        position[22],
-        b'm',
-        3,
-    ]
+    let mut line = *b"\x0200.00.00; 0; 00:00:00; ?00:00; uvxyzab; ??.????? ???.????? ????m\x03";
+    line[..24].copy_from_slice(&pzf[..24]);
+    line[24..30].copy_from_slice(&offset);
+    line[32..38].copy_from_slice(&pzf[25..31]);
+    line[38] = leap;
+    line[41..64].copy_from_slice(&position);
+    line
 }
 
 // The only string that could be read as `g`.

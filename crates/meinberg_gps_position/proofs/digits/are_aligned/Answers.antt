@@ -1,0 +1,19 @@
+use mathlib.Core.Bool.{and-true}
+use borrow.Author.Rules.{rules}
+use Rattle.clock_time.proofs.ListsLaws.{slice_known}
+use Rattle.meinberg_gps_position.specs.Aligned.{are_digits, right_aligned}
+use Rattle.meinberg_gps_position.proofs.digits.are_aligned.Goals as goal
+
+pub returns : goal.returns
+unfolding are_digits right_aligned
+returns c =
+    rw (slice_known 4 c.args.bytes (search rules))
+    (simp (
+      and-true,
+      c.is_digit-one.ensures,
+      c.is_digit.ensures,
+      c.is_digit-2.ensures,
+      c.is_first_digit.ensures,
+      c.is_first_digit-2.ensures,
+      c.is_first_digit-3.ensures,
+    ))

@@ -3,7 +3,8 @@ use Rattle.std.specs.Prelude.{ℕ, List, ℤ}
 use Rattle.clock_time.specs.Errors.{Answer, accepted}
 use Rattle.clock_time.specs.Exit.{Exit}
 use Rattle.calendar.specs.UnixTime.{unix_time}
-use Rattle.time_string.specs.Row.{Reading, time, time_and_position}
+use Rattle.time_string.specs.declared.Reading.{Reading}
+use Rattle.time_string.specs.declared.Reading.TheVariants.{Time, TimeAndPosition}
 use Rattle.time_string.specs.Kind.{kind_of, kind_number, kind_named, read_as}
 use Rattle.clock_time.specs.Called.{and_then}
 use Rattle.c_numbers.specs.Numbers.{time_numbers, gps_numbers, put_answer}
@@ -16,8 +17,8 @@ kind_number_of s = and_then (kind_of s) (λ k. accepted (kind_number k))
 -- ---- reading
 -- the numbers of a reading, 14 or with a position 17
 abbrev pub reading_numbers : Reading → List ℤ
-reading_numbers (time t) = time_numbers t
-reading_numbers (time_and_position g) = gps_numbers g
+reading_numbers (Time t) = time_numbers t
+reading_numbers (TimeAndPosition g) = gps_numbers g
 
 -- "The caller names the kind; an unknown kind number from C gives 1." (01, Meinberg and ELV strings)
 unfoldable pub read_numbered : ℕ → List ℕ → Answer Reading

@@ -9,7 +9,8 @@ use Rattle.c_numbers.specs.Numbers.{minute_count}
 use Rattle.clock_time.specs.Errors.{Answer, accepted, refused, Check, given}
 use Rattle.dcf77.specs.Minute.{minute_checks}
 use Rattle.layout.specs.Text.{text_checks}
-use Rattle.time_string.specs.Row.{Reading, as_reading, kind_row, all_kinds}
+use Rattle.time_string.specs.declared.Reading.{Reading}
+use Rattle.time_string.specs.Row.{as_reading, kind_row, all_kinds}
 use Rattle.time_string.specs.Kind.{kind_of}
 use Rattle.time_string.specs.declared.Kind.{Kind}
 use Rattle.demands.specs.Lines.{number_count}

@@ -40,7 +40,8 @@ use Rattle.meinberg_gps.specs.Accepts.{AcceptsGps}
 use Rattle.elv_dcf7000.specs.Accepts.{AcceptsElv}
 use Rattle.dcf77.specs.Accepts.{AcceptsMinute}
 use Rattle.calendar.specs.Days.{DayAfter, OnWeekday}
-use Rattle.time_string.specs.Row.{Reading, reading_time}
+use Rattle.time_string.specs.declared.Reading.{Reading}
+use Rattle.time_string.specs.Row.{reading_time}
 use Rattle.time_string.specs.Kind.{kind_of, kind_number, read_as}
 use Rattle.time_string.specs.Accepted.{TellsKind, AcceptsAs}
 use Rattle.time_string.specs.declared.Kind.{Kind}

@@ -27,7 +27,8 @@ use Rattle.clock_time.specs.FieldRanges.{Range, within, time_ranges}
 use Rattle.c_fields.specs.Ranges.{fits, time_from, numbered}
 use Rattle.c_fields.proofs.FitsLaws.{first_time_numbers}
 use Rattle.c_fields.proofs.Theorems as fields
-use Rattle.time_string.specs.Row.{Reading, reading_time}
+use Rattle.time_string.specs.declared.Reading.{Reading}
+use Rattle.time_string.specs.Row.{reading_time}
 use Rattle.c_readings.specs.Strings.{reading_numbers, unix_time_of}
 use Rattle.demands.specs.Accepted.{AcceptsNumbered}
 use Rattle.demands.specs.Lines.{instant_lines_of}

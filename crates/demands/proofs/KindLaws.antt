@@ -13,7 +13,8 @@ use Rattle.calendar.specs.Rules.{ValidReading}
 use Rattle.calendar.specs.UnixTime.{is_reading}
 use Rattle.calendar.proofs.RulesLaws.{valid_exactly}
 use Rattle.layout.specs.Text.{text_checks, read_text, write_text}
-use Rattle.time_string.specs.Row.{Reading, reading_time, Shape, without_position, with_position, Shaped, as_reading}
+use Rattle.time_string.specs.declared.Reading.{Reading}
+use Rattle.time_string.specs.Row.{reading_time, Shape, without_position, with_position, Shaped, as_reading}
 use Rattle.time_string.specs.Row.{shaped_answer, KindRow, kind_row}
 use Rattle.time_string.specs.Kind.{read_row}
 use Rattle.time_string.specs.Accepted.{AcceptsRow, AcceptsAs}

@@ -15,7 +15,9 @@ use Rattle.calendar.specs.Rules.{ValidReading}
 use Rattle.dcf77.specs.Minute.{write_minute}
 use Rattle.dcf77.specs.declared.MinuteTime.{MinuteTime}
 use Rattle.dcf77.proofs.Theorems as minutes
-use Rattle.time_string.specs.Row.{Reading, time, time_and_position, reading_time, kind_row, all_kinds}
+use Rattle.time_string.specs.declared.Reading.{Reading}
+use Rattle.time_string.specs.declared.Reading.TheVariants.{Time, TimeAndPosition}
+use Rattle.time_string.specs.Row.{reading_time, kind_row, all_kinds}
 use Rattle.time_string.specs.Kind.{kind_number, named_kind}
 use Rattle.time_string.specs.Accepted.{AcceptsAs}
 use Rattle.time_string.specs.declared.Kind.{Kind}
@@ -116,8 +118,8 @@ minute_numbers_long a = refl
 -- more numbers than those of its clock time
 more_numbers : (r : Reading) → (rest : List ℤ) × (reading_numbers r ≡ time_numbers (reading_time r) ++ rest)
 unfolding gps_numbers
-more_numbers (time t) = ([], sym (append-nil (time_numbers t)))
-more_numbers (time_and_position g) = (_, refl)
+more_numbers (Time t) = ([], sym (append-nil (time_numbers t)))
+more_numbers (TimeAndPosition g) = (_, refl)
 
 -- as many as the kind has
 pub numbers_long : (kind : Kind) (s : List ℕ) (r : Reading) → AcceptsAs kind s r

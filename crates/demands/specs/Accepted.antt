@@ -2,7 +2,7 @@
 use Rattle.std.specs.Prelude.{ℕ, ◌≡◌, List, ℤ}
 use Rattle.dcf77.specs.Accepts.{AcceptsMinute}
 use Rattle.dcf77.specs.declared.MinuteTime.{MinuteTime}
-use Rattle.time_string.specs.Row.{Reading}
+use Rattle.time_string.specs.declared.Reading.{Reading}
 use Rattle.time_string.specs.Kind.{kind_number}
 use Rattle.time_string.specs.Accepted.{AcceptsAs}
 use Rattle.time_string.specs.declared.Kind.{Kind}

@@ -4,7 +4,8 @@ use Rattle.clock_time.specs.Errors.{Answer, accepted, refused, error_number}
 use Rattle.clock_time.specs.declared.ClockTime.{ClockTime}
 use Rattle.clock_time.specs.Lists.{ascii}
 use Rattle.time_string.specs.declared.Kind.{Kind}
-use Rattle.time_string.specs.Row.{Reading, reading_time}
+use Rattle.time_string.specs.declared.Reading.{Reading}
+use Rattle.time_string.specs.Row.{reading_time}
 use Rattle.time_string.specs.Kind.{kind_of, read_as}
 use Rattle.framing.specs.declared.Event.{Event}
 use Rattle.framing.specs.declared.Event.TheVariants.{Nothing, Complete, Dropped}

@@ -31,7 +31,8 @@ use Rattle.meinberg_gps.proofs.Theorems as gpss
 use Rattle.elv_dcf7000.specs.Elv.{elv, read_elv, write_elv}
 use Rattle.elv_dcf7000.proofs.SaysLaws as elv_words
 use Rattle.elv_dcf7000.proofs.Theorems as elvs
-use Rattle.time_string.specs.Row.{Reading, Shape, without_position, with_position, Shaped, text_order, KindRow}
+use Rattle.time_string.specs.declared.Reading.{Reading}
+use Rattle.time_string.specs.Row.{Shape, without_position, with_position, Shaped, text_order, KindRow}
 use Rattle.time_string.specs.Row.{kind_row, all_kinds}
 use Rattle.time_string.specs.Kind.{first_told, kind_of, kind_number, kind_named}
 use Rattle.time_string.specs.Accepted.{TellsKind, AcceptsAs}

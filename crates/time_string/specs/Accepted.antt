@@ -1,7 +1,8 @@
 -- In words: which bytes tell a kind, and which strings are accepted as which readings.
 use Rattle.std.specs.Prelude.{ℕ, ◌≡◌, List, length, get_or}
 use Prim.Native.Char.{code}
-use Rattle.time_string.specs.Row.{Reading, Shaped, as_reading, TellingByte, any_byte, letter_d, other_byte, KindRow}
+use Rattle.time_string.specs.declared.Reading.{Reading}
+use Rattle.time_string.specs.Row.{Shaped, as_reading, TellingByte, any_byte, letter_d, other_byte, KindRow}
 use Rattle.time_string.specs.Row.{kind_row}
 use Rattle.time_string.specs.declared.Kind.{Kind}
 

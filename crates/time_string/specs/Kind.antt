@@ -3,7 +3,9 @@ use Rattle.std.specs.Prelude.{ℕ, Bool, true, cond, not, ◌&&◌, List, [], �
 use Rattle.clock_time.specs.Errors.{Answer, accepted, refused, given, checked}
 use Rattle.layout.specs.Layout.{has}
 use Rattle.layout.specs.Text.{read_text}
-use Rattle.time_string.specs.Row.{Reading, time, time_and_position, shaped_answer, TellingByte, any_byte, letter_d}
+use Rattle.time_string.specs.declared.Reading.{Reading}
+use Rattle.time_string.specs.declared.Reading.TheVariants.{Time, TimeAndPosition}
+use Rattle.time_string.specs.Row.{shaped_answer, TellingByte, any_byte, letter_d}
 use Rattle.time_string.specs.Row.{other_byte, KindRow, kind_row, all_kinds}
 use Rattle.time_string.specs.declared.Kind.{Kind}
 use Rattle.time_string.specs.declared.Kind.TheVariants.{Standard}

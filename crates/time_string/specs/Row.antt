@@ -18,19 +18,16 @@ use Rattle.meinberg_gps.specs.declared.GpsTime.{GpsTime}
 use Rattle.elv_dcf7000.specs.Elv.{elv, elv_text}
 use Rattle.elv_dcf7000.specs.Accepts.{AcceptsElv}
 use Rattle.elv_dcf7000.specs.Lines.{elv_lines}
+use Rattle.time_string.specs.declared.Reading.{Reading}
+use Rattle.time_string.specs.declared.Reading.TheVariants.{Time, TimeAndPosition}
 use Rattle.time_string.specs.declared.Kind.{Kind}
 use Rattle.time_string.specs.declared.Kind.TheVariants.{Standard, Pzf, Gps, Elv}
 
 -- ---- readings
--- "A GPS string adds position and height" (01, The reading)
-pub data Reading : Type 0 where
-  time : ClockTime → Reading
-  time_and_position : GpsTime → Reading
-
 -- the clock time of a reading, without its position
 abbrev pub reading_time : Reading → ClockTime
-reading_time (time t) = t
-reading_time (time_and_position g) = g.time
+reading_time (Time t) = t
+reading_time (TimeAndPosition g) = g.time
 
 -- whether the readings of a kind have a position
 pub data Shape : Type 0 where
@@ -44,8 +41,8 @@ Shaped with_position = GpsTime
 
 -- the same as a reading
 abbrev pub as_reading : (shape : Shape) → Shaped shape → Reading
-as_reading without_position t = time t
-as_reading with_position g = time_and_position g
+as_reading without_position t = Time t
+as_reading with_position g = TimeAndPosition g
 
 -- a reader's answer, with what it accepted as a `Reading`
 abbrev pub shaped_answer : (shape : Shape) → Answer (Shaped shape) → Answer Reading

@@ -3,19 +3,44 @@
 
 ghost use Rattle.std.specs.Prelude.{◌≡◌};
 ghost use Rattle.clock_time.specs.Reading.{answer_of};
-ghost use Rattle.time_string.specs.Row.{Shape, shaped_answer};
-ghost use Rattle.time_string.specs.Kind.{kind_of, read_as};
+ghost use Rattle.time_string.specs.Kind.{kind_of, kind_number, kind_named, read_as};
 
 use clock_time::{ClockTime, Error};
 use meinberg_gps::GpsTime;
 
 // The kinds of time strings.
-#[derive(Clone, Copy)]
+#[derive(Clone, Copy, Debug, PartialEq, Eq, Hash, Drop)]
 pub enum Kind {
-    Standard,
-    Pzf,
-    Gps,
-    Elv,
+    Standard = 0,
+    Pzf = 1,
+    Gps = 2,
+    Elv = 3,
+}
+
+impl From<Kind> for u8 {
+    ghost from_gives = { λ k n. n ≡ kind_number k };
+
+    // The number of a kind in C.
+    fn from(kind: Kind) -> u8 {
+        kind as u8
+    }
+}
+
+impl TryFrom<u8> for Kind {
+    type Error = Error;
+
+    ghost try_from_gives = { λ n r. answer_of r ≡ kind_named n };
+
+    // The kind that a number from C names. Refuses with Length (1) if it names none.
+    fn try_from(number: u8) -> Result<Kind, Error> {
+        match number {
+            0 => Ok(Kind::Standard),
+            1 => Ok(Kind::Pzf),
+            2 => Ok(Kind::Gps),
+            3 => Ok(Kind::Elv),
+            _ => Err(Error::Length),
+        }
+    }
 }
 
 // What a string says: a clock time, with a position if the string has one.
@@ -30,19 +55,13 @@ pub enum Reading {
 pub fn kind_of(s: &[u8]) -> Result<Kind, Error>
     ensures { answer_of result ≡ kind_of s.now }
 {
-    if s.len() == 66 {
-        return Ok(Kind::Gps);
+    match s.len() {
+        66 => Ok(Kind::Gps),
+        32 if s[1] == b'D' => Ok(Kind::Standard),
+        32 => Ok(Kind::Pzf),
+        21 => Ok(Kind::Elv),
+        _ => Err(Error::Length),
     }
-    if s.len() == 32 {
-        if s[1] == b'D' {
-            return Ok(Kind::Standard);
-        }
-        return Ok(Kind::Pzf);
-    }
-    if s.len() == 21 {
-        return Ok(Kind::Elv);
-    }
-    Err(Error::Length)
 }
 
 // Reads a string of the kind that the caller names, as that kind's own reader does.

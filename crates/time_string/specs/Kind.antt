@@ -52,4 +52,3 @@ read_row r s = shaped_answer r.shape (read_text r.format.format s)
 -- "The caller names the kind [..]" (01, Meinberg and ELV strings)
 unfoldable pub read_as : Kind → List ℕ → Answer Reading
 read_as kind s = read_row (kind_row kind) s
-

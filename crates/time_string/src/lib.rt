@@ -60,7 +60,7 @@ pub fn kind_of(s: &[u8]) -> Result<Kind, Error>
         32 if s[1] == b'D' => Ok(Kind::Standard),
         32 => Ok(Kind::Pzf),
         21 => Ok(Kind::Elv),
-        _ => Err(Error::Length),
+        _ => Err(Error::Length), // no kind has another length
     }
 }
 

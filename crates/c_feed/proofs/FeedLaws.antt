@@ -1,10 +1,10 @@
 -- Laws of the feed's state and event as C has them: they fit bytes, and what is stored is the state.
 use Prim.Native.Nat.{ℕ, suc, ◌<◌, ◌≤◌}
 use native.Mathlib.Omega.{arith}
-use mathlib.Core.Path.{◌≡◌, sym, ap, subst, ◌∙◌}
+use mathlib.Core.Path.{◌≡◌, refl, sym, ap, subst, ◌∙◌}
 use mathlib.Core.Bool.{Bool, true, false, cond, ◌||◌}
 use mathlib.Core.List.{List, [], ◌∷◌, ◌++◌, append_assoc, append-nil}
-use lib.Dec.{eqb}
+use lib.Dec.{eqb, ltb}
 use lib.ListN.{length, get_or, take, drop, set, length-append, length-set}
 use lib.Seq.{append_snoc, drop-cons, drop-length, set_at, take-length}
 use borrow.Author.Tests.{le-ltb}
@@ -17,8 +17,11 @@ use Rattle.framing.specs.declared.FeedResult.{FeedResult}
 use Rattle.framing.specs.Step.{effective_mode, etx_at, plain_at, step_of}
 use Rattle.framing.specs.Feed.{is_nothing, after_taking, feed_of}
 use Rattle.framing.proofs.StepLaws.{inside_room, step_cases}
-use Rattle.clock_time.specs.Called.{called, called_memory}
-use Rattle.c_feed.specs.Feed.{mode_number, framer_in, state_bytes, event_number, feed_memory, feed_into}
+use Rattle.clock_time.specs.Errors.{Answer, accepted, refused, given, checked}
+use Rattle.clock_time.specs.Exit.{Exit, exit, leaves}
+use Rattle.c_feed.specs.declared.Fed.{Fed}
+use Rattle.c_feed.specs.Feed.{mode_number, framer_in, state_bytes, event_number}
+use Rattle.c_feed.specs.Feed.{FeedMemory, feed_memory, feed_into, feed_state}
 
 -- ---- what every step keeps, a feed keeps
 module _
@@ -86,13 +89,11 @@ step_whole f b h = step_cases (λ r. length r.framer.bytes ≡ 66) f b (λ e. si
 pub feed_whole : (s : List ℕ) (f : Framer) → length f.bytes ≡ 66 → length (feed_of f s).framer.bytes ≡ 66
 feed_whole = feed_keeps Whole (λ f a w. w) step_whole
 
-pub fed_small : (r : FeedResult) (f : Framer) (s : List ℕ) → f.count ≤ 255 → r ≡ feed_of f s
-    → (r.framer.count ≤ 255) × (event_number r.event ≤ 255)
-fed_small r f s h e = subst (λ (x : FeedResult). Small x.framer x.event) (sym e) (feed_small s f h)
-
-pub state_small : (state : List ℕ) → get_or state 66 0 < 256 → (framer_in state).count ≤ 255
+pub fed_small : (state : List ℕ) (f : Framer) (s : List ℕ) (r : FeedResult) → get_or state 66 0 < 256
+    → f ≡ framer_in state → r ≡ feed_of f s → (r.framer.count ≤ 255) × (event_number r.event ≤ 255)
 unfolding framer_in
-state_small state h = omega arith
+fed_small state f s r h e k =
+    subst (λ (x : FeedResult). Small x.framer x.event) (sym k) (feed_small s f (rw e (omega arith)))
 
 -- ---- bytes written whole, and to the front
 pub copied_front : (x s d : List ℕ) → x ≡ take (length s) s ++ drop (length s) d → x ≡ s ++ drop (length s) d
@@ -121,9 +122,33 @@ unfolding state_bytes
 store_after f d x long room e = rw (e, long) (two_after 66 f.bytes d f.count (mode_number f.mode) long room)
 
 -- ---- the call
-pub feed_done : (state : List ℕ) (taken event : ℕ) (s : List ℕ) (limit : ℕ) (r : FeedResult) (x : List ℕ) (k : ℕ)
-    → 68 ≤ length state → r ≡ feed_of (framer_in state) (take limit s) → x ≡ state_bytes r.framer ++ drop 68 state
-    → k ≡ event_number r.event
-    → called 0 (feed_memory x r.taken k) ≡ called_memory (feed_into (feed_memory state taken event) s limit)
-unfolding feed_into
-feed_done state taken event s limit r x k room e p q = simp (le-ltb _ _ room, ← e, p, q)
+-- what is left, without the pointers and with them
+pub feed_done : (state : List ℕ) (f : Framer) (s : List ℕ) (limit : ℕ) (r : FeedResult) (x : List ℕ) (k : ℕ)
+    → 68 ≤ length state → f ≡ framer_in state → r ≡ feed_of f (take limit s)
+    → x ≡ state_bytes r.framer ++ drop 68 state → k ≡ event_number r.event
+    → exit (accepted (record { taken = r.taken; event = k })) x ≡ feed_state state s limit
+unfolding feed_state
+feed_done state f s limit r x k room e q p h = simp (le-ltb _ _ room, ← e, ← q, p, h)
+
+-- and what the code leaves behind the pointers of what was answered
+abbrev pub behind_pointers : ℕ → ℕ → Answer Fed → List ℕ → Exit (Unit {0}) FeedMemory
+behind_pointers taken event (accepted fed) x = exit (accepted tt) (feed_memory x fed.taken fed.event)
+behind_pointers taken event (refused k) x = exit (refused k) (feed_memory x taken event)
+
+pub feed_behind : (state : List ℕ) (taken event : ℕ) (s : List ℕ) (limit : ℕ) (a : Answer Fed) (x : List ℕ)
+    → exit a x ≡ feed_state state s limit
+    → behind_pointers taken event a x ≡ feed_into (feed_memory state taken event) s limit
+unfolding feed_state feed_into
+feed_behind state taken event s limit a x h =
+    let fed = feed_of (framer_in state) (take limit s) in
+    ap (λ (e : Exit Fed (List ℕ)). behind_pointers taken event e.answer e.memory) h
+    ∙ go (ltb (length state) 68) (state_bytes fed.framer ++ drop 68 state)
+    (record { taken = fed.taken; event = event_number fed.event })
+  where
+    go : (few : Bool) (new : List ℕ) (fed : Fed)
+        → let left = leaves state new (checked (given 20 few ∷ []) fed) in
+        behind_pointers taken event left.answer left.memory
+        ≡ leaves (feed_memory state taken event) (feed_memory new fed.taken fed.event)
+        (checked (given 20 few ∷ []) tt)
+    go true new fed = refl
+    go false new fed = refl

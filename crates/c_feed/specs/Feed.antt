@@ -9,6 +9,7 @@ use Rattle.framing.specs.Feed.{feed_of}
 use Rattle.framing.specs.declared.Framer.{Framer}
 use Rattle.framing.specs.declared.Mode.{Mode}
 use Rattle.framing.specs.declared.Mode.TheVariants.{Outside, Inside, Overlong}
+use Rattle.c_feed.specs.declared.Fed.{Fed}
 
 -- ---- the state
 -- outside a string, inside one, or in one that is too long
@@ -54,3 +55,10 @@ feed_into old s limit =
     let r = feed_of (framer_in old.state) (take limit s) in
     leaves old (feed_memory (state_bytes r.framer ++ drop 68 old.state) r.taken (event_number r.event))
     (checked (given 20 (ltb (length old.state) 68) ∷ []) tt)
+
+-- the same without the pointers, as the code has it: how many bytes were taken and the event's number are the answer
+unfoldable pub feed_state : List ℕ → List ℕ → ℕ → Exit Fed (List ℕ)
+feed_state state s limit =
+    let r = feed_of (framer_in state) (take limit s) in
+    leaves state (state_bytes r.framer ++ drop 68 state)
+    (checked (given 20 (ltb (length state) 68) ∷ []) (record { taken = r.taken; event = event_number r.event }))

@@ -2,31 +2,36 @@
 #![tactic(auto)]
 
 ghost use Rattle.std.specs.Prelude.{◌≡◌, ◌++◌, ◌≤◌, length, drop};
-ghost use Rattle.clock_time.specs.Called.{called, called_memory};
-ghost use Rattle.c_feed.specs.Feed.{mode_number, mode_of, framer_in, state_bytes, event_number, feed_memory, feed_into};
+ghost use Rattle.clock_time.specs.Exit.{exit};
+ghost use Rattle.clock_time.specs.Reading.{answer_of};
+ghost use Rattle.c_feed.specs.Feed.{mode_number, mode_of, framer_in, state_bytes, event_number, feed_state};
 
+use clock_time::Error;
 use framing::{Event, Framer, Mode};
 
+// How many bytes a call took, and the number of what the last of them ended.
+#[derive(Clone, Copy, Debug, PartialEq, Eq, Hash, Drop)]
+pub struct Fed {
+    pub taken: usize,
+    pub event: u8,
+}
+
+// Not a From, as the next four are not: Mode, Event and Framer are of another crate, and a state is a slice.
 fn mode_number(mode: Mode) -> u8
     ensures { result ≡ mode_number mode }
 {
-    match mode {
-        Mode::Outside => 0,
-        Mode::Inside => 1,
-        Mode::Overlong => 2,
-    }
+    mode as u8
 }
 
+#[tactic(auto, unfolding(crate::specs::Feed::mode_of))]
 fn mode_of(n: u8) -> Mode
     ensures { result ≡ mode_of n }
 {
-    if n == 1 {
-        return Mode::Inside;
+    match n {
+        1 => Mode::Inside,
+        2 => Mode::Overlong,
+        _ => Mode::Outside,
     }
-    if n == 2 {
-        return Mode::Overlong;
-    }
-    Mode::Outside
 }
 
 fn event_number(event: Event) -> u8
@@ -62,22 +67,18 @@ fn store(framer: Framer, state: &mut [u8])
     state[67] = mode_number(mode);
 }
 
-// Takes bytes of `s` up to its end, to `limit` bytes, or to just after the first string, and leaves the state, how many
-// it took and what the last of them ended. Refuses with LentMemory (20) if the state has fewer than 68 bytes.
-pub fn feed(state: &mut [u8], s: &[u8], limit: usize, taken: &mut usize, event: &mut u8) -> u8
-    ensures { called result (feed_memory state.new taken.new event.new)
-        ≡ called_memory
-        (feed_into (feed_memory state.old taken.old event.old) s.now limit) }
+// Takes bytes of `s` up to its end, to `limit` bytes, or to just after the first string, and leaves the state. Refuses
+// with LentMemory (20) if the state has fewer than 68 bytes.
+pub fn feed(state: &mut [u8], s: &[u8], limit: usize) -> Result<Fed, Error>
+    ensures { exit (answer_of result) state.new ≡ feed_state state.old s.now limit }
 {
     if state.len() < 68 {
-        return 20;
+        return Err(Error::LentMemory);
     }
-    let framer = load(state);
-    let fed = framer.feed(s, limit);
-    let after = fed.framer;
-    let ended = fed.event;
-    store(after, state);
-    *taken = fed.taken;
-    *event = event_number(ended);
-    0
+    let fed = load(state).feed(s, limit);
+    store(fed.framer, state);
+    Ok(Fed {
+        taken: fed.taken,
+        event: event_number(fed.event),
+    })
 }

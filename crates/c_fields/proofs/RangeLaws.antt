@@ -1,34 +1,19 @@
 -- Laws of numbers in ranges: what fits, place by place and step by step.
-use Prim.Native.Nat.{ℕ, zero, suc, ◌^◌, ◌≤◌, ◌<◌}
+use Prim.Native.Nat.{ℕ, zero, suc, ◌≤◌, ◌<◌}
 use native.Mathlib.Omega.{arith}
-use mathlib.Core.Path.{◌≡◌, refl}
-use mathlib.Core.Bool.{Bool, true, false, ◌&&◌, false≢true, and_assoc, and-false}
-use mathlib.Core.List.{List, [], ◌∷◌, ◌++◌}
-use lib.Dec.{T, leb, eqb}
-use lib.ListN.{length, get_or, drop, drop_of_length-le}
-use lib.Seq.{drop-cons}
-use lib.IntN.{ℤ, pos, negsuc, nat_abs}
-use lib.Signed.{non_neg, le_z}
-use mir.Syntax.{Width, w16}
-use mir.Val.{Fits, SFits, bits}
-use borrow.Author.Tests.{leb-true}
+use mathlib.Core.Path.{◌≡◌, refl, sym, ◌∙◌}
+use mathlib.Core.Logic.{◌⊎◌, inl, inr}
+use mathlib.Core.Bool.{Bool, true, false, ◌&&◌, false≢true, and_assoc, and-true, and-false}
+use mathlib.Core.List.{List, [], ◌∷◌, ◌++◌, map}
+use lib.Dec.{eqb}
+use lib.ListN.{length, get_or}
+use lib.IntN.{ℤ}
 use Rattle.clock_time.specs.Errors.{accepted, refused}
 use Rattle.clock_time.proofs.Tests.{both}
-use Rattle.clock_time.specs.FieldRanges.{Range, range, up_to, i16_range, within}
-use Rattle.c_fields.specs.Ranges.{ranges_between, fits, at}
+use Rattle.clock_time.specs.FieldRanges.{Range, up_to, within}
+use Rattle.c_fields.specs.declared.Ends.{Ends}
+use Rattle.c_fields.specs.Ranges.{range_of, fits, at}
 use Rattle.c_fields.specs.Ranges.{fits_all, numbered}
-
--- ---- a number in a range
--- a number from 0 on in as many bits as hold its range
-pub up_to_fits : (w : Width) (m : ℕ) (z : ℤ) → m < 2 ^ bits w → within (up_to m) z ≡ true
-    → T (non_neg z) × Fits w (nat_abs z)
-up_to_fits w m (pos n) small h =
-    let k = leb-true n m (both (leb 0 n) (leb n m) h).1 in (tt, record { fits = omega arith })
-up_to_fits w m (negsuc n) small h = absurd (false≢true h)
-
-pub i16_fits : (z : ℤ) → within i16_range z ≡ true → SFits w16 z
-i16_fits (pos n) h = record { sfits = let k = leb-true n 32767 h in omega arith }
-i16_fits (negsuc n) h = record { sfits = let k = leb-true n 32767 (both (leb n 32767) true h).0 in omega arith }
 
 -- ---- numbers in their ranges
 pub fits_at : (rs : List Range) (z : List ℤ) → fits rs z ≡ true
@@ -48,30 +33,37 @@ fits_first (r ∷ rs) qs (x ∷ z) h =
     let w = both (within r x) (fits (rs ++ qs) z) h in simp (w.0, fits_first rs qs z w.1)
 
 -- ---- the test in steps
--- the ends of the ranges, and numbers
-module _ (least most z : List ℤ) where
-  -- the test of all but the first i numbers
-  abbrev pub after : ℕ → Bool
-  after i = fits (ranges_between (drop i least) (drop i most)) (drop i z)
+-- as many numbers are left as ranges at least, and all fit exactly if those passed did and those left do
+pub record Left (ranges : List Ends) (z : List ℤ) (all : Bool) (rs : List Ends) (xs : List ℤ) : Type 0 where
+  pub enough : length rs ≤ length xs
+  pub test : all && fits (map range_of rs) xs ≡ fits (map range_of ranges) z
 
-  pub after_step : (i : ℕ) → i < length least → i < length most → i < length z → (all : Bool)
-      → all && le_z (at i least) (at i z) && le_z (at i z) (at i most) && after (suc i) ≡ all && after i
-  unfolding fits ranges_between
-  after_step i h k l all =
-      rw (drop-cons least i (pos 0) h, drop-cons most i (pos 0) k, drop-cons z i (pos 0) l) (simp and_assoc)
+module _ (ranges : List Ends) (z : List ℤ) where
+  pub left_first : (rs : List Ends) (xs : List ℤ) → length ranges ≤ length z → rs ≡ ranges → xs ≡ z
+      → Left ranges z true rs xs
+  left_first rs xs h e k = record { enough = rw (e, k) h; test = rw (e, k) }
 
-  pub after_all : (i : ℕ) → length least ≤ i → after i ≡ true
-  unfolding fits ranges_between
-  after_all i h = rw (drop_of_length-le least h)
+  pub left_more : (all : Bool) (rs' rs : List Ends) (xs' xs : List ℤ) (r : Ends) (x : ℤ)
+      → Left ranges z all rs' xs' → rs' ≡ r ∷ rs → xs' ≡ x ∷ xs → Left ranges z (all && within (range_of r) x) rs xs
+  unfolding fits
+  left_more all rs' rs xs' xs r x h e k =
+      let enough : length (r ∷ rs) ≤ length (x ∷ xs) = rw (e, k) at h.enough in
+      let test = rw (e, k) at h.test in
+      record { enough = omega arith; test = and_assoc all _ _ ∙ test }
 
-pub fits_short : (least most z : List ℤ) → length least ≡ length most → length z < length least
-    → fits (ranges_between least most) z ≡ false
-unfolding fits ranges_between
-fits_short [] most z e h = absurd (omega arith)
-fits_short (a ∷ least) [] z e h = absurd (omega (arith, e))
-fits_short (a ∷ least) (b ∷ most) [] e h = refl
-fits_short (a ∷ least) (b ∷ most) (x ∷ z) e h =
-    rw (fits_short least most z (omega (arith, e)) (omega arith)) (and-false (within (range a b) x))
+  pub left_none : (all : Bool) (rs : List Ends) (xs : List ℤ) → Left ranges z all rs xs → (rs ≡ []) ⊎ (xs ≡ [])
+      → all ≡ fits (map range_of ranges) z
+  unfolding fits
+  left_none all rs xs h (inl e) = sym (and-true all) ∙ rw e at h.test
+  left_none all [] xs h (inr e) = sym (and-true all) ∙ h.test
+  left_none all (r ∷ rs) xs h (inr e) = let few : suc (length rs) ≤ 0 = rw e at h.enough in absurd (omega arith)
+
+pub fits_short : (ranges : List Ends) (z : List ℤ) → length z < length ranges
+    → fits (map range_of ranges) z ≡ false
+unfolding fits
+fits_short [] z h = absurd (omega arith)
+fits_short (r ∷ ranges) [] h = refl
+fits_short (r ∷ ranges) (x ∷ z) h = rw (fits_short ranges z (omega arith)) (and-false (within (range_of r) x))
 
 -- ---- the answer
 pub numbered_fit : {A : Type 0} {fit : Bool} {a b : A} → fit ≡ true → b ≡ a → accepted b ≡ numbered fit a
@@ -82,15 +74,6 @@ pub numbered_unfit : {A : Type 0} {fit : Bool} (a : A) → fit ≡ false → ref
 unfolding numbered
 numbered_unfit a h = rw h
 
--- the same if the code tests the length and then the numbers
-module _ (rs : List Range) (z : List ℤ) {fit : Bool} (e : fit ≡ fits rs z) where
-  pub all_fit : eqb (length z) (length rs) && fit ≡ true → fits rs z ≡ true
-  all_fit h = (both (eqb (length z) (length rs)) (fits rs z) (rw e at h)).1
-
-  pub numbered_all : {A : Type 0} {a b : A} → eqb (length z) (length rs) && fit ≡ true → b ≡ a
-      → accepted b ≡ numbered (fits_all rs z) a
-  numbered_all h k = numbered_fit (rw e at h) k
-
-  pub numbered_other : {A : Type 0} (a : A) → eqb (length z) (length rs) && fit ≡ false
-      → refused 23 ≡ numbered (fits_all rs z) a
-  numbered_other a h = numbered_unfit a (rw e at h)
+-- the same if no number stands after those
+pub all_fit : (rs : List Range) (z : List ℤ) → fits_all rs z ≡ true → fits rs z ≡ true
+all_fit rs z h = (both (eqb (length z) (length rs)) (fits rs z) h).1

@@ -3,6 +3,7 @@ use Rattle.std.specs.Prelude.{ℕ, Bool, true, false, not, ◌&&◌, List, [], �
 use Rattle.clock_time.specs.Errors.{Answer, given, checked}
 use Rattle.clock_time.specs.FieldRanges.{Range, range, within, up_to, time_ranges, gps_ranges}
 use Rattle.clock_time.specs.Same.{eq_ℤ}
+use Rattle.c_fields.specs.declared.Ends.{Ends}
 use Rattle.clock_time.specs.declared.ClockTime.{ClockTime}
 use Rattle.meinberg_gps.specs.declared.GpsTime.{GpsTime}
 use Rattle.dcf77.specs.declared.MinuteTime.{MinuteTime}
@@ -12,11 +13,9 @@ use Rattle.dcf77.specs.declared.MinuteTime.{MinuteTime}
 unfoldable pub minute_ranges : List Range
 minute_ranges = time_ranges ++ (up_to 65535 ∷ up_to 1 ∷ [])
 
--- the ranges whose least numbers are one list and whose most are the other, as many as the shorter list has
-unfoldable pub ranges_between : List ℤ → List ℤ → List Range
-ranges_between [] most = []
-ranges_between (a ∷ least) [] = []
-ranges_between (a ∷ least) (b ∷ most) = range a b ∷ ranges_between least most
+-- the range with these ends
+abbrev pub range_of : Ends → Range
+range_of e = range e.least e.most
 
 -- there is a number for each range, and it is in it; numbers after those play no part
 unfoldable pub fits : List Range → List ℤ → Bool

@@ -1,88 +1,153 @@
 // Numbers as the readings that they stand for.
 #![tactic(auto)]
 
-ghost use Rattle.std.specs.Prelude.{◌≡◌, true, ◌<◌, nat_abs, length};
+ghost use Rattle.std.specs.Prelude.{◌≡◌, true, ◌<◌, List, ℤ, nat_abs, length, map};
 ghost use Rattle.clock_time.specs.Reading.{answer_of};
-ghost use Rattle.clock_time.specs.FieldRanges.{within, up_to, i16_range, time_ranges, gps_ranges};
-ghost use Rattle.c_fields.specs.Ranges.{minute_ranges, ranges_between};
-ghost use Rattle.c_fields.specs.Ranges.{fits, at, is_set, time_from, gps_from, minute_from, time_of};
-ghost use Rattle.c_fields.specs.Ranges.{first_time_of, gps_of, minute_of};
+ghost use Rattle.clock_time.specs.FieldRanges.{Range, within, up_to, i16_range, i32_range, time_ranges, gps_ranges};
+ghost use Rattle.c_fields.specs.Ranges.{minute_ranges, range_of, fits, fits_all};
+ghost use Rattle.c_fields.specs.Ranges.{at, is_set, time_from, gps_from, minute_from, first_time_of, numbered_in};
 
 use c_numbers::{GPS_FIELDS, MINUTE_FIELDS, TIME_FIELDS};
 use clock_time::{ClockTime, Error, MinuteDetail, Position};
 use dcf77::MinuteTime;
 use meinberg_gps::GpsTime;
 
-// The most in 16 and in 8 bits without a sign.
-const W: i32 = 65535;
+// The least and the most that a place may hold.
+#[derive(Clone, Copy)]
+struct Ends {
+    least: i32,
+    most: i32,
+}
 
-const B: i32 = 255;
+impl Ends {
+    fn hold(self, x: i32) -> bool
+        ensures { result ≡ within (range_of self) x }
+    {
+        (self.least <= x) & (x <= self.most)
+    }
+}
 
-// The least and the most in 32 bits with a sign.
-const MIN: i32 = -2147483648;
+const WORD: Ends = Ends {
+    least: 0,
+    most: 65535,
+};
 
-const MAX: i32 = 2147483647;
+const BYTE: Ends = Ends {
+    least: 0,
+    most: 255,
+};
 
-// The ends of the ranges of a GPS string's places, of which the first 14 are a clock time's.
-const GPS_LEAST: [i32; GPS_FIELDS] = [0, 0, 0, 0, 0, 0, 0, -32768, 0, 0, 0, 0, 0, 0, MIN, MIN, 0];
+const FLAG: Ends = Ends { least: 0, most: 1 };
 
-const GPS_MOST: [i32; GPS_FIELDS] = [W, B, B, B, B, B, B, 32767, 1, 1, 1, 1, 1, 1, MAX, MAX, W];
+const OFFSET: Ends = Ends {
+    least: -32768,
+    most: 32767,
+};
 
-// The same of a minute's places.
-const MINUTE_LEAST: [i32; MINUTE_FIELDS] = [0, 0, 0, 0, 0, 0, 0, -32768, 0, 0, 0, 0, 0, 0, 0, 0];
+const ANY: Ends = Ends {
+    least: -2147483648,
+    most: 2147483647,
+};
 
-const MINUTE_MOST: [i32; MINUTE_FIELDS] = [W, B, B, B, B, B, B, 32767, 1, 1, 1, 1, 1, 1, W, 1];
+// Those of a GPS string's places, of which the first 14 are a clock time's.
+const GPS_ENDS: [Ends; GPS_FIELDS] = [
+    WORD, BYTE, BYTE, BYTE, BYTE, BYTE, BYTE, OFFSET, FLAG, FLAG, FLAG, FLAG, FLAG, FLAG, ANY, ANY,
+    WORD,
+];
+
+// Those of a minute's places.
+const MINUTE_ENDS: [Ends; MINUTE_FIELDS] = [
+    WORD, BYTE, BYTE, BYTE, BYTE, BYTE, BYTE, OFFSET, FLAG, FLAG, FLAG, FLAG, FLAG, FLAG, WORD,
+    FLAG,
+];
 
 // Whether the first numbers are in the ranges with these ends. It looks at all, which is quicker than to stop early.
-fn are_within(least: &[i32], most: &[i32], z: &[i32]) -> bool
-    requires { length least.now ≡ length most.now }
-    ensures { result ≡ fits (ranges_between least.now most.now) z.now }
+fn are_within(ends: &[Ends], z: &[i32]) -> bool
+    ensures { result ≡ fits (map range_of ends.now) z.now }
 {
-    if z.len() < least.len() {
+    if z.len() < ends.len() {
         return false;
     }
     let mut all = true;
-    let mut i = 0;
-    while i < least.len() {
-        all = all & (least[i] <= z[i]) & (z[i] <= most[i]);
-        i += 1;
+    for (places, x) in ends.iter().zip(z) {
+        all &= places.hold(*x);
     }
     all
 }
 
-fn number_at(z: &[i32], i: usize) -> i32
-    requires { i < length z.now }
-    ensures { result ≡ at i z.now }
+// The same if there are no more numbers than ranges.
+fn are_all_within(ends: &[Ends], z: &[i32]) -> bool
+    ensures { result ≡ fits_all (map range_of ends.now) z.now }
 {
-    z[i]
+    (z.len() == ends.len()) & are_within(ends, z)
 }
 
-fn u16_at(z: &[i32], i: usize) -> u16
-    requires { (i < length z.now) × (within (up_to 65535) (at i z.now) ≡ true) }
-    ensures { result ≡ nat_abs (at i z.now) }
-{
-    z[i] as u16
+// What a number stands for in a field of this type.
+trait Field: Sized {
+    ghost range: { Range };
+
+    ghost value: { ℤ → Self };
+
+    fn of(x: i32) -> Self
+        requires { within range x ≡ true }
+        ensures { result ≡ value x };
 }
 
-fn u8_at(z: &[i32], i: usize) -> u8
-    requires { (i < length z.now) × (within (up_to 255) (at i z.now) ≡ true) }
-    ensures { result ≡ nat_abs (at i z.now) }
-{
-    z[i] as u8
+impl Field for u16 {
+    ghost range = { up_to 65535 };
+
+    ghost value = { nat_abs };
+
+    fn of(x: i32) -> u16 {
+        x as u16
+    }
 }
 
-fn i16_at(z: &[i32], i: usize) -> i16
-    requires { (i < length z.now) × (within i16_range (at i z.now) ≡ true) }
-    ensures { result ≡ at i z.now }
-{
-    z[i] as i16
+impl Field for u8 {
+    ghost range = { up_to 255 };
+
+    ghost value = { nat_abs };
+
+    fn of(x: i32) -> u8 {
+        x as u8
+    }
 }
 
-fn flag_at(z: &[i32], i: usize) -> bool
-    requires { i < length z.now }
-    ensures { result ≡ is_set (at i z.now) }
+impl Field for i16 {
+    ghost range = { i16_range };
+
+    ghost value = { λ z. z };
+
+    fn of(x: i32) -> i16 {
+        x as i16
+    }
+}
+
+impl Field for i32 {
+    ghost range = { i32_range };
+
+    ghost value = { λ z. z };
+
+    fn of(x: i32) -> i32 {
+        x
+    }
+}
+
+impl Field for bool {
+    ghost range = { up_to 1 };
+
+    ghost value = { is_set };
+
+    fn of(x: i32) -> bool {
+        x == 1
+    }
+}
+
+fn value_at<T: Field>(z: &[i32], i: usize) -> T
+    requires { (i < length z.now) × (within T.range (at i z.now) ≡ true) }
+    ensures { result ≡ T.value (at i z.now) }
 {
-    z[i] == 1
+    T::of(z[i])
 }
 
 fn time_from(z: &[i32]) -> ClockTime
@@ -90,20 +155,20 @@ fn time_from(z: &[i32]) -> ClockTime
     ensures { result ≡ time_from z.now }
 {
     ClockTime {
-        year: u16_at(z, 0),
-        month: u8_at(z, 1),
-        day: u8_at(z, 2),
-        weekday: u8_at(z, 3),
-        hour: u8_at(z, 4),
-        minute: u8_at(z, 5),
-        second: u8_at(z, 6),
-        utc_offset: i16_at(z, 7),
-        unsynchronised: flag_at(z, 8),
-        unverified: flag_at(z, 9),
-        summer_time: flag_at(z, 10),
-        dst_change_announced: flag_at(z, 11),
-        leap_second_announced: flag_at(z, 12),
-        alternate_antenna: flag_at(z, 13),
+        year: value_at(z, 0),
+        month: value_at(z, 1),
+        day: value_at(z, 2),
+        weekday: value_at(z, 3),
+        hour: value_at(z, 4),
+        minute: value_at(z, 5),
+        second: value_at(z, 6),
+        utc_offset: value_at(z, 7),
+        unsynchronised: value_at(z, 8),
+        unverified: value_at(z, 9),
+        summer_time: value_at(z, 10),
+        dst_change_announced: value_at(z, 11),
+        leap_second_announced: value_at(z, 12),
+        alternate_antenna: value_at(z, 13),
     }
 }
 
@@ -113,9 +178,9 @@ fn gps_from(z: &[i32]) -> GpsTime
 {
     let time = time_from(z);
     let position = Position {
-        latitude: number_at(z, 14),
-        longitude: number_at(z, 15),
-        height: u16_at(z, 16),
+        latitude: value_at(z, 14),
+        longitude: value_at(z, 15),
+        height: value_at(z, 16),
     };
     GpsTime { time, position }
 }
@@ -126,16 +191,10 @@ fn minute_from(z: &[i32]) -> MinuteTime
 {
     let time = time_from(z);
     let detail = MinuteDetail {
-        first_marks: u16_at(z, 14),
-        sixty: flag_at(z, 15),
+        first_marks: value_at(z, 14),
+        sixty: value_at(z, 15),
     };
     MinuteTime { time, detail }
-}
-
-fn is_time(z: &[i32]) -> bool
-    ensures { result ≡ fits time_ranges z.now }
-{
-    are_within(&GPS_LEAST[..TIME_FIELDS], &GPS_MOST[..TIME_FIELDS], z)
 }
 
 // The clock time that the first 14 numbers are. Refuses with Unrepresentable (23) if one is outside the range of its
@@ -143,41 +202,59 @@ fn is_time(z: &[i32]) -> bool
 pub fn first_time_of(z: &[i32]) -> Result<ClockTime, Error>
     ensures { answer_of result ≡ first_time_of z.now }
 {
-    if is_time(z) {
+    if are_within(&GPS_ENDS[..TIME_FIELDS], z) {
         return Ok(time_from(z));
     }
     Err(Error::Unrepresentable)
 }
 
-// The clock time that 14 numbers are. Refuses with Unrepresentable (23) if one is outside the range of its field, or
-// there are not 14.
-pub fn time_of(z: &[i32]) -> Result<ClockTime, Error>
-    ensures { answer_of result ≡ time_of z.now }
-{
-    if (z.len() == TIME_FIELDS) & is_time(z) {
-        return Ok(time_from(z));
-    }
-    Err(Error::Unrepresentable)
+// A reading that numbers stand for.
+pub trait FromNumbers: Sized {
+    ghost ranges: { List Range };
+
+    ghost from: { List ℤ → Self };
+
+    // The reading that the numbers are. Refuses with Unrepresentable (23) if one is outside the range of its field, or
+    // there are not as many as fields.
+    fn from_numbers(z: &[i32]) -> Result<Self, Error>
+        ensures { answer_of result ≡ numbered_in ranges from z.now };
 }
 
-// The clock time and position that 17 numbers are. Refuses with Unrepresentable (23) if one is outside the range of its
-// field, or there are not 17.
-pub fn gps_of(z: &[i32]) -> Result<GpsTime, Error>
-    ensures { answer_of result ≡ gps_of z.now }
-{
-    if (z.len() == GPS_FIELDS) & are_within(&GPS_LEAST, &GPS_MOST, z) {
-        return Ok(gps_from(z));
+impl FromNumbers for ClockTime {
+    ghost ranges = { time_ranges };
+
+    ghost from = { time_from };
+
+    fn from_numbers(z: &[i32]) -> Result<ClockTime, Error> {
+        if are_all_within(&GPS_ENDS[..TIME_FIELDS], z) {
+            return Ok(time_from(z));
+        }
+        Err(Error::Unrepresentable)
     }
-    Err(Error::Unrepresentable)
 }
 
-// The minute that 16 numbers are. Refuses with Unrepresentable (23) if one is outside the range of its field, or there
-// are not 16.
-pub fn minute_of(z: &[i32]) -> Result<MinuteTime, Error>
-    ensures { answer_of result ≡ minute_of z.now }
-{
-    if (z.len() == MINUTE_FIELDS) & are_within(&MINUTE_LEAST, &MINUTE_MOST, z) {
-        return Ok(minute_from(z));
+impl FromNumbers for GpsTime {
+    ghost ranges = { gps_ranges };
+
+    ghost from = { gps_from };
+
+    fn from_numbers(z: &[i32]) -> Result<GpsTime, Error> {
+        if are_all_within(&GPS_ENDS, z) {
+            return Ok(gps_from(z));
+        }
+        Err(Error::Unrepresentable)
     }
-    Err(Error::Unrepresentable)
+}
+
+impl FromNumbers for MinuteTime {
+    ghost ranges = { minute_ranges };
+
+    ghost from = { minute_from };
+
+    fn from_numbers(z: &[i32]) -> Result<MinuteTime, Error> {
+        if are_all_within(&MINUTE_ENDS, z) {
+            return Ok(minute_from(z));
+        }
+        Err(Error::Unrepresentable)
+    }
 }

@@ -1,12 +1,11 @@
 // Readings as numbers in lent memory.
 #![tactic(auto)]
 
-ghost use Rattle.std.specs.Prelude.{◌≡◌, [], ◌∷◌, ◌++◌, ◌≤◌, pos, length, take, drop};
+ghost use Rattle.std.specs.Prelude.{◌≡◌, ◌++◌, List, ℤ};
+ghost use Rattle.clock_time.specs.Exit.{exit};
 ghost use Rattle.clock_time.specs.Reading.{answer_of};
-ghost use Rattle.clock_time.specs.Called.{called, called_memory};
-ghost use Rattle.c_numbers.specs.Numbers.{flag_number, time_numbers, gps_numbers, minute_numbers, put_numbers};
-ghost use Rattle.c_numbers.specs.Numbers.{trimble_numbers, gps_count};
-ghost use Rattle.c_numbers.specs.Numbers.{put_answer};
+ghost use Rattle.c_numbers.specs.Numbers.{time_numbers, gps_numbers, minute_numbers, trimble_numbers};
+ghost use Rattle.c_numbers.specs.Numbers.{put_numbers, put_answer};
 
 use clock_time::{ClockTime, Error};
 use dcf77::MinuteTime;
@@ -22,157 +21,90 @@ pub const MINUTE_FIELDS: usize = 16;
 
 pub const TRIMBLE_FIELDS: usize = 15;
 
-fn number(x: u16) -> i32
-    ensures { result ≡ pos x }
-{
-    x as i32
+// A reading that C has as numbers.
+pub trait Numbers {
+    ghost numbers: { Self → List ℤ };
+
+    // Puts them in the place of the first of those lent. Refuses with LentMemory (20) if there is no room.
+    fn put(self, fields: &mut [i32]) -> Result<(), Error>
+        ensures { exit (answer_of result) fields.new ≡ put_numbers (numbers self) fields.old };
 }
 
-fn flag_number(on: bool) -> i32
-    ensures { result ≡ flag_number on }
-{
-    if on { 1 } else { 0 }
+impl Numbers for ClockTime {
+    ghost numbers = { time_numbers };
+
+    fn put(self, fields: &mut [i32]) -> Result<(), Error> {
+        put_time_and(self, &[], fields)
+    }
 }
 
-fn signed(x: i16) -> i32
-    ensures { result ≡ x }
-{
-    x as i32
+impl Numbers for GpsTime {
+    ghost numbers = { gps_numbers };
+
+    fn put(self, fields: &mut [i32]) -> Result<(), Error> {
+        let p = self.position;
+        let more = [p.latitude, p.longitude, i32::from(p.height)];
+        put_time_and(self.time, &more, fields)
+    }
 }
 
-// The numbers of a clock time, and three more.
-fn numbers_with(t: ClockTime, a: i32, b: i32, c: i32) -> [i32; GPS_FIELDS]
-    ensures { result ≡ time_numbers t ++ (a ∷ b ∷ c ∷ []) }
+impl Numbers for MinuteTime {
+    ghost numbers = { minute_numbers };
+
+    fn put(self, fields: &mut [i32]) -> Result<(), Error> {
+        let d = self.detail;
+        let more = [i32::from(d.first_marks), i32::from(d.sixty)];
+        put_time_and(self.time, &more, fields)
+    }
+}
+
+impl Numbers for TrimbleTime {
+    ghost numbers = { trimble_numbers };
+
+    fn put(self, fields: &mut [i32]) -> Result<(), Error> {
+        put_time_and(self.time, &[i32::from(self.milliseconds)], fields)
+    }
+}
+
+fn time_numbers(t: ClockTime) -> [i32; TIME_FIELDS]
+    ensures { result ≡ time_numbers t }
 {
     [
-        number(t.year),
-        number(t.month as u16),
-        number(t.day as u16),
-        number(t.weekday as u16),
-        number(t.hour as u16),
-        number(t.minute as u16),
-        number(t.second as u16),
-        signed(t.utc_offset),
-        flag_number(t.unsynchronised),
-        flag_number(t.unverified),
-        flag_number(t.summer_time),
-        flag_number(t.dst_change_announced),
-        flag_number(t.leap_second_announced),
-        flag_number(t.alternate_antenna),
-        a,
-        b,
-        c,
+        i32::from(t.year),
+        i32::from(t.month),
+        i32::from(t.day),
+        i32::from(t.weekday),
+        i32::from(t.hour),
+        i32::from(t.minute),
+        i32::from(t.second),
+        i32::from(t.utc_offset),
+        i32::from(t.unsynchronised),
+        i32::from(t.unverified),
+        i32::from(t.summer_time),
+        i32::from(t.dst_change_announced),
+        i32::from(t.leap_second_announced),
+        i32::from(t.alternate_antenna),
     ]
 }
 
-fn copy_to_front(numbers: &[i32], fields: &mut [i32])
-    requires { length numbers.now ≤ length fields.old }
-    ensures { fields.new ≡ numbers.now ++ drop (length numbers.now) fields.old }
+// Puts the numbers of a clock time, and more after them, in the place of the first of those lent.
+fn put_time_and(t: ClockTime, more: &[i32], fields: &mut [i32]) -> Result<(), Error>
+    ensures { exit (answer_of result) fields.new ≡ put_numbers (time_numbers t ++ more.now) fields.old }
 {
-    let mut i = 0;
-    while i < numbers.len() {
-        fields[i] = numbers[i];
-        i += 1;
+    let count = TIME_FIELDS + more.len();
+    if fields.len() < count {
+        return Err(Error::LentMemory);
     }
+    fields[..TIME_FIELDS].copy_from_slice(&time_numbers(t));
+    fields[TIME_FIELDS..count].copy_from_slice(more);
+    Ok(())
 }
 
-// Puts numbers in the place of the first of those lent. Refuses with LentMemory (20) if there is no room.
-fn put_numbers(numbers: &[i32], fields: &mut [i32]) -> u8
-    ensures { called result fields.new ≡ called_memory (put_numbers numbers.now fields.old) }
+// Puts the numbers of what was read in the place of the first of those lent. Refuses as the reader did, then with
+// LentMemory (20) if there is no room.
+pub fn put_answer<R: Numbers>(answer: Result<R, Error>, fields: &mut [i32]) -> Result<(), Error>
+    ensures { exit (answer_of result) fields.new
+        ≡ put_answer R.numbers (answer_of answer) fields.old }
 {
-    if fields.len() < numbers.len() {
-        return 20;
-    }
-    copy_to_front(numbers, fields);
-    0
-}
-
-// Puts the first `count` of a clock time's numbers and three more.
-fn put_with(t: ClockTime, a: i32, b: i32, c: i32, count: usize, fields: &mut [i32]) -> u8
-    requires { count ≤ gps_count }
-    ensures { called result fields.new
-        ≡ called_memory (put_numbers (take count (time_numbers t ++ (a ∷ b ∷ c ∷ []))) fields.old) }
-{
-    let numbers = numbers_with(t, a, b, c);
-    put_numbers(&numbers[..count], fields)
-}
-
-fn put_position(g: GpsTime, fields: &mut [i32]) -> u8
-    ensures { called result fields.new ≡ called_memory (put_numbers (gps_numbers g) fields.old) }
-{
-    let t = g.time;
-    let p = g.position;
-    put_with(
-        t,
-        p.latitude,
-        p.longitude,
-        number(p.height),
-        GPS_FIELDS,
-        fields,
-    )
-}
-
-fn put_detail(a: MinuteTime, fields: &mut [i32]) -> u8
-    ensures { called result fields.new ≡ called_memory (put_numbers (minute_numbers a) fields.old) }
-{
-    let t = a.time;
-    let d = a.detail;
-    put_with(
-        t,
-        number(d.first_marks),
-        flag_number(d.sixty),
-        0,
-        MINUTE_FIELDS,
-        fields,
-    )
-}
-
-fn put_milliseconds(g: TrimbleTime, fields: &mut [i32]) -> u8
-    ensures { called result fields.new ≡ called_memory (put_numbers (trimble_numbers g) fields.old) }
-{
-    let t = g.time;
-    put_with(t, number(g.milliseconds), 0, 0, TRIMBLE_FIELDS, fields)
-}
-
-// Puts the 14 numbers of a clock time that was read in the place of the first of those lent. Refuses as the reader did,
-// then with LentMemory (20) if there is no room.
-pub fn put_time(answer: Result<ClockTime, Error>, fields: &mut [i32]) -> u8
-    ensures { called result fields.new ≡ called_memory (put_answer time_numbers (answer_of answer) fields.old) }
-{
-    match answer {
-        Ok(t) => put_with(t, 0, 0, 0, TIME_FIELDS, fields),
-        Err(e) => u8::from(e),
-    }
-}
-
-// The same for the 17 numbers of a GPS string.
-pub fn put_gps(answer: Result<GpsTime, Error>, fields: &mut [i32]) -> u8
-    ensures { called result fields.new ≡ called_memory (put_answer gps_numbers (answer_of answer) fields.old) }
-{
-    match answer {
-        Ok(g) => put_position(g, fields),
-        Err(e) => u8::from(e),
-    }
-}
-
-// The same for the 16 numbers of a minute.
-pub fn put_minute(answer: Result<MinuteTime, Error>, fields: &mut [i32]) -> u8
-    ensures { called result fields.new
-        ≡ called_memory (put_answer minute_numbers (answer_of answer) fields.old) }
-{
-    match answer {
-        Ok(a) => put_detail(a, fields),
-        Err(e) => u8::from(e),
-    }
-}
-
-// The same for the 15 numbers of a Trimble string.
-pub fn put_trimble(answer: Result<TrimbleTime, Error>, fields: &mut [i32]) -> u8
-    ensures { called result fields.new
-        ≡ called_memory (put_answer trimble_numbers (answer_of answer) fields.old) }
-{
-    match answer {
-        Ok(g) => put_milliseconds(g, fields),
-        Err(e) => u8::from(e),
-    }
+    answer?.put(fields)
 }

@@ -38,7 +38,7 @@ pub fn read_minute(m: &[u8]) -> Result<MinuteTime, Error>
     }
     let a = reading::fields(m, minute, hour, date);
     let t = a.time;
-    let in_date = reading::date_error(t.weekday, t.date());
+    let in_date = reading::date_error(t);
     if in_date != 0 {
         return Err(reading::error_of(in_date));
     }

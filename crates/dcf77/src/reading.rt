@@ -9,7 +9,7 @@ ghost use Rattle.dcf77.specs.Numbers.{Sure, Numbers, first_number, start_checks,
 ghost use Rattle.dcf77.specs.Numbers.{time_checks};
 
 use crate::{MinuteTime, marks};
-use clock_time::{ClockTime, Date, Error, MinuteDetail};
+use clock_time::{ClockTime, Error, MinuteDetail};
 use gregorian::FIRST_YEAR;
 
 // The offset of the announced time.
@@ -125,13 +125,13 @@ pub(crate) fn marks_error(m: &[u8], minute: u32, hour: u32, date: u32) -> u8
 }
 
 // The first that holds of Weekday (7) and NoSuchDate (5); 0 if none does.
-pub(crate) fn date_error(weekday: u8, date: Date) -> u8
-    ensures { result ≡ first_number (date_checks weekday date.year date.month date.day) }
+pub(crate) fn date_error(t: ClockTime) -> u8
+    ensures { result ≡ first_number (date_checks t.weekday t.year t.month t.day) }
 {
-    if !((1 <= weekday) & (weekday <= 7)) {
+    if !((1 <= t.weekday) & (t.weekday <= 7)) {
         return 7;
     }
-    if !gregorian::date_exists(date) {
+    if !gregorian::date_exists(t.date()) {
         return 5;
     }
     0

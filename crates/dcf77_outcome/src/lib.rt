@@ -12,18 +12,18 @@ ghost use Rattle.dcf77.specs.Minute.{mark};
 ghost use Rattle.dcf77_outcome.specs.Number.{outcome_number, run_number};
 ghost use Rattle.dcf77_outcome.specs.Instant.{is_minute_number, outcome_unix_time};
 
-use clock_time::Error;
+use clock_time::{Date, Error};
 use dcf77::MinuteTime;
+use gregorian::supported::SupportedDate;
 
 // Days from 1 January 1970 to a date that exists.
 fn days_to(year: u16, month: u8, day: u8) -> u32
     requires { supported_date first_year last_year year month day ≡ true }
     ensures { result ≡ days_since_epoch year month day }
 {
-    match calendar::date::day_number(year, month, day) {
-        Ok(days) => days,
-        Err(_) => 0,
-    }
+    calendar::date::days_since_epoch(SupportedDate {
+        date: Date { year, month, day },
+    })
 }
 
 // The minutes from 1 January 1970 00:00.

@@ -5,6 +5,7 @@ ghost use Rattle.std.specs.Prelude.{◌≡◌};
 ghost use Rattle.clock_time.specs.Writing.{written};
 ghost use Rattle.dcf77.specs.Minute.{write_minute};
 
+use clock_time::Error;
 use dcf77::MinuteTime;
 
 mod writing;

@@ -8,6 +8,7 @@ ghost use Rattle.dcf77.specs.Marks.{bits};
 ghost use Rattle.dcf77.specs.Writable.{Spells, fields_representable, minute_representable};
 ghost use Rattle.dcf77.specs.Minute.{mark, with_parity, first_marks_of, minute_text, write_minute};
 
+use clock_time::Error;
 use dcf77::MinuteTime;
 
 // Marks 15 to 20.

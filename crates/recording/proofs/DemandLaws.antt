@@ -7,6 +7,7 @@ use mathlib.Core.List.{List}
 use lib.ListN.{length, get_or, set, length-set}
 use lib.Seq.{get_or-set_same, get_or-set_other}
 use borrow.Author.Tests.{leb-false}
+use Rattle.std.specs.Prelude.{Ok}
 use Rattle.clock_time.specs.Errors.{Passes}
 use Rattle.clock_time.proofs.ErrorLaws.{accepted_passes}
 use Rattle.clock_time.proofs.ExitLaws.{leaves_accepted}
@@ -59,7 +60,7 @@ module _ (m o : List ℕ) (p v : ℕ) where
       }
 
   pub correct_corrected : (m' o' : List ℕ) (n : ℕ)
-      → correction (CorrectAnswer.Corrected n) m' o' ≡ correct_mark m o p v → Corrected m o p v m' o' n
+      → correction (Ok n) m' o' ≡ correct_mark m o p v → Corrected m o p v m' o' n
   unfolding correct_mark
   correct_corrected m' o' n h =
       let a = leaves_accepted (recorded m o) (recorded marked (updated marked o p)) (recorded m' o') n _ h in

@@ -8,6 +8,7 @@ use mathlib.Core.Option.{none, some}
 use lib.Dec.{eqb, ltb}
 use lib.ListN.{length, get_or, set, length-set}
 use borrow.Author.Tests.{lt-ltb, le-ltb, le-leb, lt-leb, eq-eqb, eqb-true, ltb-false}
+use Rattle.std.specs.Prelude.{Ok, Err}
 use Rattle.clock_time.specs.Errors.{accepted, refused, error_number, given, checked}
 use Rattle.clock_time.specs.Exit.{Exit}
 use Rattle.clock_time.specs.declared.Error.{Error}
@@ -53,20 +54,20 @@ module _ (m o : List ℕ) where
   unfolding fill_outcomes
   fill_done o' h e = rw (h, e)
 
-  fill_passed : (o' : List ℕ) → filling FillAnswer.Filled o' ≡ fill_outcomes m o
+  fill_passed : (o' : List ℕ) → filling (Ok tt) o' ≡ fill_outcomes m o
       → (unfit (length m) (length o) ≡ false) × (o' ≡ numbers (rule m) (length m))
   unfolding fill_outcomes
   fill_passed o' h =
       let a = leaves_accepted o (numbers (rule m) (length m)) o' tt _ h in
       ((accepted_passes (given 20 (unfit (length m) (length o)) ∷ []) tt tt a.0).0.0, a.1)
 
-  pub fill_right : (o' : List ℕ) → filling FillAnswer.Filled o' ≡ fill_outcomes m o → Right (rule m) (length m) o'
+  pub fill_right : (o' : List ℕ) → filling (Ok tt) o' ≡ fill_outcomes m o → Right (rule m) (length m) o'
   fill_right o' h = rw (fill_passed o' h).1 (numbers_right (rule m) (length m))
 
-  pub fill_fits : (o' : List ℕ) → filling FillAnswer.Filled o' ≡ fill_outcomes m o → length m ≤ 100000
+  pub fill_fits : (o' : List ℕ) → filling (Ok tt) o' ≡ fill_outcomes m o → length m ≤ 100000
   fill_fits o' h = (unfit_false (length m) (length o) (fill_passed o' h).0).1
 
-  pub fill_kept : (o' : List ℕ) (e : Error) → filling (FillAnswer.Refused e) o' ≡ fill_outcomes m o → o' ≡ o
+  pub fill_kept : (o' : List ℕ) (e : Error) → filling (Err e) o' ≡ fill_outcomes m o → o' ≡ o
   unfolding fill_outcomes
   fill_kept o' e h =
       leaves_refused o (numbers (rule m) (length m)) o' (error_number e)
@@ -120,7 +121,7 @@ module _ (m o : List ℕ) (p v : ℕ) where
       let e = correct_done _ _ (fits_unfit (length m) (length o) l h) k q refl refl in
       (_, ap (λ (x : Exit ℕ Recorded). x.answer) (sym e))
 
-  pub correct_kept : (m' o' : List ℕ) (e : Error) → correction (CorrectAnswer.Refused e) m' o' ≡ correct_mark m o p v
+  pub correct_kept : (m' o' : List ℕ) (e : Error) → correction (Err e) m' o' ≡ correct_mark m o p v
       → (m' ≡ m) × (o' ≡ o)
   unfolding correct_mark
   correct_kept m' o' e h =

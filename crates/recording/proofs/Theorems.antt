@@ -5,6 +5,7 @@ use mathlib.Core.Path.{◌≡◌}
 use mathlib.Core.Logic.{◌↔◌}
 use mathlib.Core.List.{List}
 use lib.ListN.{length, get_or, set}
+use Rattle.std.specs.Prelude.{Ok, Err}
 use Rattle.clock_time.specs.Errors.{accepted}
 use Rattle.clock_time.specs.declared.Error.{Error}
 use Rattle.recording.specs.Gaps.{FirstGapAfter}
@@ -23,19 +24,19 @@ use Rattle.recording.proofs.DemandLaws.{correct_corrected}
 module _ (marks outcomes : List ℕ) (place mark : ℕ) (marks' outcomes' : List ℕ) where
   -- demand 3, of every correction that isn't refused
   pub demand_3 : (count : ℕ)
-      → correction (CorrectAnswer.Corrected count) marks' outcomes' ≡ correct_mark marks outcomes place mark
+      → correction (Ok count) marks' outcomes' ≡ correct_mark marks outcomes place mark
       → Corrected marks outcomes place mark marks' outcomes' count
   demand_3 count h = correct_corrected marks outcomes place mark marks' outcomes' count h
 
   -- "So if the sheet was right for the old tape, it is right at every place for the new one." (demand 3)
   pub right_stays_right : (count : ℕ)
-      → correction (CorrectAnswer.Corrected count) marks' outcomes' ≡ correct_mark marks outcomes place mark
+      → correction (Ok count) marks' outcomes' ≡ correct_mark marks outcomes place mark
       → RightFor marks outcomes → RightFor marks' outcomes'
   right_stays_right count h = (demand_3 count h).right
 
   -- and then it is the sheet that filling makes of the new tape
   pub correct_is_fill : (count : ℕ)
-      → correction (CorrectAnswer.Corrected count) marks' outcomes' ≡ correct_mark marks outcomes place mark
+      → correction (Ok count) marks' outcomes' ≡ correct_mark marks outcomes place mark
       → RightFor marks outcomes → outcomes' ≡ numbers (rule marks') (length marks')
   correct_is_fill count h r =
       right_numbers (rule marks') (length marks') outcomes'
@@ -43,13 +44,13 @@ module _ (marks outcomes : List ℕ) (place mark : ℕ) (marks' outcomes' : List
 
   -- "The count returned is exactly how many places of the sheet hold another number than before." (demand 3)
   pub count_exact : (count : ℕ)
-      → correction (CorrectAnswer.Corrected count) marks' outcomes' ≡ correct_mark marks outcomes place mark
+      → correction (Ok count) marks' outcomes' ≡ correct_mark marks outcomes place mark
       → count ≡ differences outcomes outcomes'
   count_exact count h = (demand_3 count h).counted
 
   -- "A refusal [..] changes no byte or number of the memory we lent." (demand 1)
   pub refused_correction_changes_nothing : (e : Error)
-      → correction (CorrectAnswer.Refused e) marks' outcomes' ≡ correct_mark marks outcomes place mark
+      → correction (Err e) marks' outcomes' ≡ correct_mark marks outcomes place mark
       → (marks' ≡ marks) × (outcomes' ≡ outcomes)
   refused_correction_changes_nothing e h = correct_kept marks outcomes place mark marks' outcomes' e h
 
@@ -66,19 +67,19 @@ same_first_gap marks place mark gap = first_set marks place mark gap
 
 -- ---- the outcomes of a recording
 module _ (marks outcomes outcomes' : List ℕ) where
-  pub filled_right : filling FillAnswer.Filled outcomes' ≡ fill_outcomes marks outcomes
+  pub filled_right : filling (Ok tt) outcomes' ≡ fill_outcomes marks outcomes
       → RightFor marks outcomes'
   filled_right h = (right_exactly marks outcomes').0 (fill_right marks outcomes outcomes' h)
 
   -- every place holds what `outcome_at` answers there
-  pub filled_outcome_at : filling FillAnswer.Filled outcomes' ≡ fill_outcomes marks outcomes
+  pub filled_outcome_at : filling (Ok tt) outcomes' ≡ fill_outcomes marks outcomes
       → (i : ℕ) → i < length marks → outcome_at marks i ≡ accepted (get_or outcomes' i 0)
   filled_outcome_at h i l =
       rw ((fill_right marks outcomes outcomes' h).each i l)
       (outcome_fits marks i (fill_fits marks outcomes outcomes' h) l)
 
   pub refused_filling_changes_nothing : (e : Error)
-      → filling (FillAnswer.Refused e) outcomes' ≡ fill_outcomes marks outcomes → outcomes' ≡ outcomes
+      → filling (Err e) outcomes' ≡ fill_outcomes marks outcomes → outcomes' ≡ outcomes
   refused_filling_changes_nothing e h = fill_kept marks outcomes outcomes' e h
 
 -- ---- the rule

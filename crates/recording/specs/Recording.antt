@@ -1,6 +1,8 @@
 -- What the crate's functions answer, and leave of the memory lent to them.
-use Rattle.std.specs.Prelude.{ℕ, Bool, not, ◌||◌, List, [], ◌∷◌, eqb, leb, ltb, length, set}
+use Rattle.std.specs.Prelude.{ℕ, Result, Bool, not, ◌||◌, List, [], ◌∷◌, eqb, leb, ltb, length, set}
 use Rattle.clock_time.specs.Errors.{Answer, accepted, refused, Check, given, checked}
+use Rattle.clock_time.specs.Reading.{answer_of}
+use Rattle.clock_time.specs.declared.Error.{Error}
 use Rattle.clock_time.specs.Exit.{Exit, exit, leaves}
 use Rattle.dcf77_outcome.specs.Number.{run_number}
 use Rattle.recording.specs.Outcomes.{numbers, mended, differences}
@@ -20,8 +22,9 @@ outcome_at marks place =
 abbrev pub unfit : ℕ → ℕ → Bool
 unfit marks outcomes = not (eqb marks outcomes) || ltb 100000 marks
 
+-- ---- the number at every place
 -- the answer, with the outcomes at exit
-abbrev pub filling : FillAnswer → List ℕ → Exit (Unit {0}) (List ℕ)
+abbrev pub filling : Result (Unit {0}) Error → List ℕ → Exit (Unit {0}) (List ℕ)
 filling r outcomes = exit (answer_of r) outcomes
 
 -- the outcomes that are right: "the two are equally long and every place holds the number that this rule gives there"
@@ -42,7 +45,7 @@ abbrev pub recorded : List ℕ → List ℕ → Recorded
 recorded marks outcomes = record { marks = marks; outcomes = outcomes }
 
 -- the answer, with the marks and the outcomes at exit
-abbrev pub correction : CorrectAnswer → List ℕ → List ℕ → Exit ℕ Recorded
+abbrev pub correction : Result ℕ Error → List ℕ → List ℕ → Exit ℕ Recorded
 correction r marks outcomes = exit (answer_of r) (recorded marks outcomes)
 
 -- "For a correction: 20, 21, 22."; 21: "place at or past the tape's end"; 22: "new mark above 3" (01, Refusal numbers)

@@ -59,7 +59,12 @@ fn put_mark(marks: &mut [u8], place: usize, mark: u8)
 // Puts a new mark at a place, brings the outcomes up to date, and counts those that differ. Refuses with LentMemory
 // (20) if there are not as many outcomes as marks, or more than 100,000 marks, with Place (21) if there is no such
 // place, then with NewMark (22) if the mark is above 3.
-pub fn correct_mark(marks: &mut [u8], outcomes: &mut [u32], place: usize, mark: u8) -> Result<usize, Error>
+pub fn correct_mark(
+    marks: &mut [u8],
+    outcomes: &mut [u32],
+    place: usize,
+    mark: u8,
+) -> Result<usize, Error>
     ensures { correction result marks.new outcomes.new
         ≡ correct_mark marks.old outcomes.old place mark }
 {

@@ -1,48 +1,28 @@
-use native.Mathlib.Omega.{arith}
-use native.Mathlib.Numerals.{add-one}
-use mathlib.Core.Path.{refl, sym, ◌∙◌}
-use mathlib.Core.Bool.{and-true}
-use borrow.Author.Rules.{rules}
+use borrow.Author.Rules.{rules, sfits_of}
+use mathlib.Core.Path.{sym}
 use mir.Syntax.{w32}
-use Rattle.c_fields.specs.Ranges.{at}
-use Rattle.c_numbers.proofs.NumberLaws.{kept}
-use Rattle.c_fields.proofs.RangeLaws.{fits_short, after_step, after_all}
+use mir.Val.{SFits}
+use mir.Facts.{to_z-of_z}
+use Rattle.std.proofs.lemmas.Slice.Zip.{Zip-more, either_empty_from_Zip}
+use Rattle.c_fields.proofs.RangeLaws.{fits_short, left_first, left_more, left_none}
 use Rattle.c_fields.proofs.are_within.Goals as goal
 
-pub returns-then-z-least : goal.returns-then-z-least
-returns-then-z-least c = sym (fits_short _ _ _ c.requires c.if-z-least.true)
+pub returns-then-z-ends : goal.returns-then-z-ends
+returns-then-z-ends c = sym (fits_short _ _ c.if-z-ends.true)
 
-pub loop-i-init : goal.loop-i-init
-loop-i-init c = (omega arith, omega arith, refl)
+pub loop-places-init : goal.loop-places-init
+loop-places-init c =
+    rw c.into_iter-places-iterator.ensures.into_iter_gives
+    (left_first _ _ _ _ c.if-z-ends.false (search rules) c.zip-places-items.ensures.second.0)
 
-pub bounds-z-i-in-loop-i : goal.bounds-z-i-in-loop-i
-bounds-z-i-in-loop-i c = omega (arith, c.requires)
-
-pub offset_bounds-most-i : goal.offset_bounds-most-i
-offset_bounds-most-i c = omega (arith, c.requires)
-
-pub bounds-most-i : goal.bounds-most-i
-bounds-most-i c = omega (arith, c.requires)
-
-pub loop-i-preserved : goal.loop-i-preserved
-loop-i-preserved c =
-    let l = c.loop-i in
-    let step =
-    after_step c.args.least.now c.args.most.now c.args.z.now l.i
-    (omega arith) (omega (arith, c.requires)) (omega arith) l.all in (
-      omega arith,
-      omega arith,
-      rw (
-        kept w32 {z = at l.i c.args.least.now} (search rules),
-        kept w32 {z = at l.i c.args.z.now} (search rules),
-        kept w32 {z = at l.i c.args.most.now} (search rules),
-        add-one,
-      )
-          (step ∙ l.invariant.2),
-    )
+pub loop-places-preserved : goal.loop-places-preserved
+loop-places-preserved c =
+    let more =
+    Zip-more c.loop-places.places-iterator c.next.new.self c.next.result _ c.in-Some.is c.next.ensures.steps in
+    let fits : SFits w32 c.in-Some.x.now = search sfits_of in
+    rw (c.hold-all.ensures, to_z-of_z fits) (left_more _ _ _ _ _ _ _ _ _ c.loop-places.invariant more.0 more.1)
 
 pub returns : goal.returns
 returns c =
-    let l = c.loop-i in
-    let done = after_all c.args.least.now c.args.most.now c.args.z.now l.i (omega arith) in
-    sym (and-true l.all) ∙ rw done at l.invariant.2
+    left_none _ _ _ _ _ c.loop-places.invariant
+    (either_empty_from_Zip c.loop-places.places-iterator c.next.new.self c.next.result c.in-None.is c.next.ensures.steps)

@@ -1,13 +1,16 @@
 use mathlib.Core.Path.{sym, ◌∙◌}
+use Rattle.clock_time.specs.FieldRanges.{time_ranges}
 use Rattle.c_fields.proofs.RangeLaws.{numbered_fit, numbered_unfit}
 use Rattle.c_fields.proofs.first_time_of.Goals as goal
 
 pub time_from-requires : goal.time_from-requires
-time_from-requires c = sym c.is_time.ensures ∙ c.if-is_time.true
+unfolding time_ranges
+time_from-requires c = sym c.are_within.ensures ∙ c.if-are_within.true
 
-pub returns-then-is_time : goal.returns-then-is_time
-returns-then-is_time c =
-    numbered_fit (sym c.is_time.ensures ∙ c.if-is_time.true) c.time_from.ensures
+pub returns-then-are_within : goal.returns-then-are_within
+unfolding time_ranges
+returns-then-are_within c = numbered_fit (sym c.are_within.ensures ∙ c.if-are_within.true) c.time_from.ensures
 
 pub returns : goal.returns
-returns c = numbered_unfit _ (sym c.is_time.ensures ∙ c.if-is_time.false)
+unfolding time_ranges
+returns c = numbered_unfit _ (sym c.are_within.ensures ∙ c.if-are_within.false)

@@ -10,22 +10,22 @@ pub time_from-time-requires : goal.time_from-time-requires
 unfolding gps_ranges time_ranges
 time_from-time-requires c = fits_first time_ranges _ _ c.requires
 
-pub number_at-requires : goal.number_at-requires
+pub value_at-requires : goal.value_at-requires
 unfolding gps_ranges time_ranges
-number_at-requires c = (fits_at gps_ranges _ c.requires 14 (lit< tt)).0
+value_at-requires c = fits_at gps_ranges _ c.requires 14 (lit< tt)
 
-pub number_at-requires-2 : goal.number_at-requires-2
+pub value_at-requires-2 : goal.value_at-requires-2
 unfolding gps_ranges time_ranges
-number_at-requires-2 c = (fits_at gps_ranges _ c.requires 15 (lit< tt)).0
+value_at-requires-2 c = fits_at gps_ranges _ c.requires 15 (lit< tt)
 
-pub u16_at-requires : goal.u16_at-requires
+pub value_at-requires-3 : goal.value_at-requires-3
 unfolding gps_ranges time_ranges
-u16_at-requires c = fits_at gps_ranges _ c.requires 16 (lit< tt)
+value_at-requires-3 c = fits_at gps_ranges _ c.requires 16 (lit< tt)
 
 pub returns : goal.returns
 unfolding gps_from
 returns c =
     cc (
-      held w32 c.number_at.type_inv c.number_at.ensures,
-      held w32 c.number_at-2.type_inv c.number_at-2.ensures,
+      held w32 c.value_at.type_inv c.value_at.ensures,
+      held w32 c.value_at-2.type_inv c.value_at-2.ensures,
     )

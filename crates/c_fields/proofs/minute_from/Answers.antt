@@ -5,17 +5,17 @@ use Rattle.c_fields.proofs.RangeLaws.{fits_at, fits_first}
 use Rattle.c_fields.proofs.minute_from.Goals as goal
 
 pub time_from-time-requires : goal.time_from-time-requires
-unfolding minute_from minute_ranges time_ranges
+unfolding minute_ranges time_ranges
 time_from-time-requires c = fits_first time_ranges _ _ c.requires
 
-pub u16_at-requires : goal.u16_at-requires
-unfolding minute_from minute_ranges time_ranges
-u16_at-requires c = fits_at minute_ranges _ c.requires 14 (lit< tt)
+pub value_at-requires : goal.value_at-requires
+unfolding minute_ranges time_ranges
+value_at-requires c = fits_at minute_ranges _ c.requires 14 (lit< tt)
 
-pub flag_at-requires : goal.flag_at-requires
-unfolding minute_from minute_ranges time_ranges
-flag_at-requires c = (fits_at minute_ranges _ c.requires 15 (lit< tt)).0
+pub value_at-requires-2 : goal.value_at-requires-2
+unfolding minute_ranges time_ranges
+value_at-requires-2 c = fits_at minute_ranges _ c.requires 15 (lit< tt)
 
 pub returns : goal.returns
-unfolding minute_from minute_ranges time_ranges
+unfolding minute_from
 returns c = cc

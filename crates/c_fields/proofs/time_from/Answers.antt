@@ -18,78 +18,78 @@ place : (z : List ℤ) → fits time_ranges z ≡ true → (i : ℕ) → T (ltb 
 unfolding time_ranges
 place z h i t = fits_at time_ranges z h i (lit< t)
 
-pub u16_at-requires : goal.u16_at-requires
+pub value_at-requires : goal.value_at-requires
 unfolding time_ranges
-u16_at-requires c = place c.args.z.now c.requires 0 tt
+value_at-requires c = place c.args.z.now c.requires 0 tt
 
-pub u8_at-requires : goal.u8_at-requires
+pub value_at-requires-2 : goal.value_at-requires-2
 unfolding time_ranges
-u8_at-requires c = place c.args.z.now c.requires 1 tt
+value_at-requires-2 c = place c.args.z.now c.requires 1 tt
 
-pub u8_at-requires-2 : goal.u8_at-requires-2
+pub value_at-requires-3 : goal.value_at-requires-3
 unfolding time_ranges
-u8_at-requires-2 c = place c.args.z.now c.requires 2 tt
+value_at-requires-3 c = place c.args.z.now c.requires 2 tt
 
-pub u8_at-requires-3 : goal.u8_at-requires-3
+pub value_at-requires-4 : goal.value_at-requires-4
 unfolding time_ranges
-u8_at-requires-3 c = place c.args.z.now c.requires 3 tt
+value_at-requires-4 c = place c.args.z.now c.requires 3 tt
 
-pub u8_at-requires-4 : goal.u8_at-requires-4
+pub value_at-requires-5 : goal.value_at-requires-5
 unfolding time_ranges
-u8_at-requires-4 c = place c.args.z.now c.requires 4 tt
+value_at-requires-5 c = place c.args.z.now c.requires 4 tt
 
-pub u8_at-requires-5 : goal.u8_at-requires-5
+pub value_at-requires-6 : goal.value_at-requires-6
 unfolding time_ranges
-u8_at-requires-5 c = place c.args.z.now c.requires 5 tt
+value_at-requires-6 c = place c.args.z.now c.requires 5 tt
 
-pub u8_at-requires-6 : goal.u8_at-requires-6
+pub value_at-requires-7 : goal.value_at-requires-7
 unfolding time_ranges
-u8_at-requires-6 c = place c.args.z.now c.requires 6 tt
+value_at-requires-7 c = place c.args.z.now c.requires 6 tt
 
-pub i16_at-requires : goal.i16_at-requires
+pub value_at-requires-8 : goal.value_at-requires-8
 unfolding time_ranges
-i16_at-requires c = place c.args.z.now c.requires 7 tt
+value_at-requires-8 c = place c.args.z.now c.requires 7 tt
 
-pub flag_at-requires : goal.flag_at-requires
+pub value_at-requires-9 : goal.value_at-requires-9
 unfolding time_ranges
-flag_at-requires c = (place c.args.z.now c.requires 8 tt).0
+value_at-requires-9 c = place c.args.z.now c.requires 8 tt
 
-pub flag_at-requires-2 : goal.flag_at-requires-2
+pub value_at-requires-10 : goal.value_at-requires-10
 unfolding time_ranges
-flag_at-requires-2 c = (place c.args.z.now c.requires 9 tt).0
+value_at-requires-10 c = place c.args.z.now c.requires 9 tt
 
-pub flag_at-requires-3 : goal.flag_at-requires-3
+pub value_at-requires-11 : goal.value_at-requires-11
 unfolding time_ranges
-flag_at-requires-3 c = (place c.args.z.now c.requires 10 tt).0
+value_at-requires-11 c = place c.args.z.now c.requires 10 tt
 
-pub flag_at-requires-4 : goal.flag_at-requires-4
+pub value_at-requires-12 : goal.value_at-requires-12
 unfolding time_ranges
-flag_at-requires-4 c = (place c.args.z.now c.requires 11 tt).0
+value_at-requires-12 c = place c.args.z.now c.requires 11 tt
 
-pub flag_at-requires-5 : goal.flag_at-requires-5
+pub value_at-requires-13 : goal.value_at-requires-13
 unfolding time_ranges
-flag_at-requires-5 c = (place c.args.z.now c.requires 12 tt).0
+value_at-requires-13 c = place c.args.z.now c.requires 12 tt
 
-pub flag_at-requires-6 : goal.flag_at-requires-6
+pub value_at-requires-14 : goal.value_at-requires-14
 unfolding time_ranges
-flag_at-requires-6 c = (place c.args.z.now c.requires 13 tt).0
+value_at-requires-14 c = place c.args.z.now c.requires 13 tt
 
 pub returns : goal.returns
 unfolding time_from
 returns c =
     simp (
-      c.u16_at.ensures,
-      c.u8_at.ensures,
-      c.u8_at-2.ensures,
-      c.u8_at-3.ensures,
-      c.u8_at-4.ensures,
-      c.u8_at-5.ensures,
-      c.u8_at-6.ensures,
-      held w16 c.i16_at.type_inv c.i16_at.ensures,
-      c.flag_at.ensures,
-      c.flag_at-2.ensures,
-      c.flag_at-3.ensures,
-      c.flag_at-4.ensures,
-      c.flag_at-5.ensures,
-      c.flag_at-6.ensures,
+      c.value_at.ensures,
+      c.value_at-2.ensures,
+      c.value_at-3.ensures,
+      c.value_at-4.ensures,
+      c.value_at-5.ensures,
+      c.value_at-6.ensures,
+      c.value_at-7.ensures,
+      held w16 c.value_at-8.type_inv c.value_at-8.ensures,
+      c.value_at-9.ensures,
+      c.value_at-10.ensures,
+      c.value_at-11.ensures,
+      c.value_at-12.ensures,
+      c.value_at-13.ensures,
+      c.value_at-14.ensures,
     )

@@ -5,16 +5,16 @@ use Rattle.dcf77_outcome.proofs.run_number.Goals as goal
 
 pub number_of-requires : goal.number_of-requires
 number_of-requires c =
-    let read = sym (rw c.in-Read.is at c.read_minute.ensures) in
+    let read = sym (rw c.in-Ok.is at c.read_minute.ensures) in
     (accepted_known _ _ read, accepted_summer _ _ read)
 
-pub returns-in-Read : goal.returns-in-Read
+pub returns-in-Ok : goal.returns-in-Ok
 unfolding run_number
-returns-in-Read c =
-    rw (← c.read_minute.ensures, c.in-Read.is)
+returns-in-Ok c =
+    rw (← c.read_minute.ensures, c.in-Ok.is)
     c.number_of.ensures
 
-pub returns-in-Refused : goal.returns-in-Refused
+pub returns-in-Err : goal.returns-in-Err
 unfolding run_number
-returns-in-Refused c =
-    rw (← c.read_minute.ensures, c.in-Refused.is, c.error_number.ensures)
+returns-in-Err c =
+    rw (← c.read_minute.ensures, c.in-Err.is, c.from.ensures)

@@ -1,0 +1,31 @@
+use borrow.Author.Rules.{sfits_of}
+use mathlib.Core.Path.{◌∙◌}
+use mir.Syntax.{w16, w32}
+use mir.Val.{SFits}
+use mir.Facts.{to_z-of_z}
+use Rattle.c_numbers.specs.Numbers.{time_numbers}
+use Rattle.c_numbers.proofs.NumberLaws.{held, flag_byte}
+use Rattle.c_numbers.proofs.time_numbers.Goals as goal
+
+pub returns : goal.returns
+unfolding time_numbers
+returns c =
+    let t = c.args.t in
+    let offset : SFits w16 t.utc_offset = search sfits_of in
+    rw (
+      held w32 c.from.type_inv c.from.ensures,
+      held w32 c.from-2.type_inv c.from-2.ensures,
+      held w32 c.from-3.type_inv c.from-3.ensures,
+      held w32 c.from-4.type_inv c.from-4.ensures,
+      held w32 c.from-5.type_inv c.from-5.ensures,
+      held w32 c.from-6.type_inv c.from-6.ensures,
+      held w32 c.from-7.type_inv c.from-7.ensures,
+      held w32 c.from-8.type_inv c.from-8.ensures,
+      to_z-of_z offset,
+      held w32 c.from-9.type_inv (c.from-9.ensures ∙ flag_byte t.unsynchronised),
+      held w32 c.from-10.type_inv (c.from-10.ensures ∙ flag_byte t.unverified),
+      held w32 c.from-11.type_inv (c.from-11.ensures ∙ flag_byte t.summer_time),
+      held w32 c.from-12.type_inv (c.from-12.ensures ∙ flag_byte t.dst_change_announced),
+      held w32 c.from-13.type_inv (c.from-13.ensures ∙ flag_byte t.leap_second_announced),
+      held w32 c.from-14.type_inv (c.from-14.ensures ∙ flag_byte t.alternate_antenna),
+    )

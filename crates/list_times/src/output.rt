@@ -1,6 +1,6 @@
 // What the program writes to standard output and to standard error, if it is not a line of the listing.
+use std::io;
 use std::io::{Error, IsTerminal, Write};
-use std::str;
 
 // Writes text to standard error, as far as that can be written.
 fn tell(rt: &HostRuntime, text: &[u8]) {
@@ -10,15 +10,9 @@ fn tell(rt: &HostRuntime, text: &[u8]) {
 // Says on standard error what failed, as the caller names it, and why: the system's text for the error. The library
 // writes its number after it, ` (os error 2)`, which is left out.
 pub(crate) fn tell_error(rt: &HostRuntime, what: &[u8], error: &Error) {
-    let mut space = [0u8; 256];
-    let mut rest = &mut space[..];
-    let _ = write!(rest, "{error}");
-    let n = 256usize.saturating_sub(rest.len());
-    let text = str::from_utf8(&space[..n]).unwrap_or("");
-    let why = match text.split_once(" (os error ") {
-        Some((why, _)) => why,
-        None => text,
-    };
+    let text: Result<_, _> = error.to_string(rt.alloc());
+    let text = text.as_ref().map_or("", |text| text.as_str());
+    let why = text.split_once(" (os error ").map_or(text, |(why, _)| why);
     tell(rt, what);
     tell(rt, b": ");
     tell(rt, why.as_bytes());
@@ -31,26 +25,14 @@ pub(crate) fn fail(rt: &HostRuntime, what: &[u8], error: &Error) {
     tell_error(rt, what, error);
 }
 
-// Writes text; says so and answers false if that fails.
-pub(crate) fn write(rt: &HostRuntime, text: &[u8]) -> bool {
-    match rt.stdout().write_all(text) {
-        Ok(()) => true,
-        Err(error) => {
-            fail(rt, b"standard output", &error);
-            false
-        }
-    }
+// Writes the version, which include/radio_clock.h has too.
+pub(crate) fn write_version(rt: &HostRuntime) -> io::Result<()> {
+    rt.stdout().write_all(b"list_times 0.2.1\n")
 }
 
-// Tells the version, which include/radio_clock.h has too.
-pub(crate) fn tell_version(rt: &HostRuntime) {
-    write(rt, b"list_times 0.2.1\n");
-}
-
-// Tells how the program is used.
-pub(crate) fn tell_help(rt: &HostRuntime) {
-    write(
-        rt,
+// Writes how the program is used.
+pub(crate) fn write_help(rt: &HostRuntime) -> io::Result<()> {
+    rt.stdout().write_all(
         b"usage: list_times [FILE]\n\
           \x20      list_times --help | --version\n\
           \n\
@@ -71,7 +53,7 @@ pub(crate) fn tell_help(rt: &HostRuntime) {
           parity of the receiver:\n\
           \n\
           \x20 stty -F /dev/ttyS0 9600 raw -echo && list_times /dev/ttyS0\n",
-    );
+    )
 }
 
 // Tells on standard error how the program is used, in a line.

@@ -2,7 +2,8 @@
 use Rattle.std.proofs.Common.{◌≡◌, ℕ, suc, ◌+◌, ◌-◌, ◌*◌, ◌^◌, ◌<◌, ◌≤◌, true, false, List, ◌∷◌, length, get_or, drop, refl, lt_of_not-le, add-one, arith, drop_of_length-le, drop-cons, le-ltb, lt-ltb}
 use native.Mathlib.Decide.{dec_le, dec_lt}
 use Rattle.clock_time.specs.Errors.{accepted}
-use Rattle.vectors.specs.declared.digit_run.DigitsRead.TheVariants.{Number, NotDigit, TooLong}
+use Rattle.std.specs.Prelude.{Ok, Err}
+use Rattle.vectors.specs.declared.digit_run.DigitsError.TheVariants.{NotDigit, TooLong}
 use Rattle.decimal.specs.Decimal.{is_digit, first_non_digit, value_from, value, digits}
 use Rattle.vectors.specs.DigitRun.{read_digits, digits_answer}
 use Rattle.decimal.proofs.DecimalLaws.{power_next, power_small, digit_range}
@@ -14,16 +15,16 @@ pub record Reads (s : List ℕ) (n : ℕ) : Type 0 where
   pub all_digits : first_non_digit s ≡ length s
   pub stands : value s ≡ n
 
-pub read_long : (s : List ℕ) → 19 < length s → digits_answer TooLong ≡ read_digits s
+pub read_long : (s : List ℕ) → 19 < length s → digits_answer (Err TooLong) ≡ read_digits s
 unfolding read_digits
 read_long s h = simp (lt-ltb _ _ h)
 
 pub read_offence : (s : List ℕ) {i : ℕ} → length s ≤ 19 → first_non_digit s ≡ i → i < length s
-    → digits_answer (NotDigit i) ≡ read_digits s
+    → digits_answer (Err (NotDigit i)) ≡ read_digits s
 unfolding read_digits
 read_offence s h e l = simp (le-ltb _ _ h, e, lt-ltb _ _ l)
 
-pub read_number : {s : List ℕ} {n : ℕ} → Reads s n → digits_answer (Number n) ≡ read_digits s
+pub read_number : {s : List ℕ} {n : ℕ} → Reads s n → digits_answer (Ok n) ≡ read_digits s
 unfolding read_digits
 read_number {s} r =
     let l : length s ≤ first_non_digit s = omega arith in

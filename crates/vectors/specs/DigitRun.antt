@@ -1,10 +1,10 @@
 -- Runs of digits: what is read, and what is written.
-use Rattle.std.specs.Prelude.{ℕ, ◌^◌, cond, ◌&&◌, List, length, nat_le, nat_lt}
+use Rattle.std.specs.Prelude.{ℕ, ◌^◌, cond, ◌&&◌, List, length, nat_le, nat_lt, Result, Ok, Err}
 use Rattle.clock_time.specs.Errors.{Answer, accepted, refused}
 use Rattle.clock_time.specs.Writing.{Written, writing}
 use Rattle.decimal.specs.Decimal.{first_non_digit, value, digits}
-use Rattle.vectors.specs.declared.digit_run.DigitsRead.{DigitsRead}
-use Rattle.vectors.specs.declared.digit_run.DigitsRead.TheVariants.{Number, NotDigit, TooLong}
+use Rattle.vectors.specs.declared.digit_run.DigitsError.{DigitsError}
+use Rattle.vectors.specs.declared.digit_run.DigitsError.TheVariants.{NotDigit, TooLong}
 
 -- an answer, with the place of the byte that offends, 0 if none does
 pub record Placed : Type 0 where
@@ -20,10 +20,10 @@ read_digits s =
     (record { answer = accepted (value s); place = 0 }))
 
 -- the function's answer, with the place of the byte that offends
-abbrev pub digits_answer : DigitsRead → Placed
-digits_answer (Number n) = record { answer = accepted n; place = 0 }
-digits_answer (NotDigit i) = record { answer = refused 3; place = i }
-digits_answer TooLong = record { answer = refused 1; place = 0 }
+abbrev pub digits_answer : Result ℕ DigitsError → Placed
+digits_answer (Ok n) = record { answer = accepted n; place = 0 }
+digits_answer (Err (NotDigit i)) = record { answer = refused 3; place = i }
+digits_answer (Err TooLong) = record { answer = refused 1; place = 0 }
 
 -- n as k digits: 23 if no run of k digits that can be read stands for n
 unfoldable pub write_digits : ℕ → ℕ → List ℕ → Written

@@ -1,77 +1,174 @@
-// The commands. A word is one number, of which its bytes are the digits: `at` is 0x6174.
-use crate::numbers::Numbers;
+// The commands, by their names and the types of their numbers.
+use crate::digit_run;
+use crate::recordings::{Change, Lent, Sheet};
+use crate::strings::MINUTE;
 
-pub const ERROR: u64 = 0x6572726f72;
+// What a word that is no number counts as. Only `write` takes it for one.
+const NO_NUMBER: u64 = 10_000_000_000_000_000_000;
 
-pub const LEAP: u64 = 0x6c656170;
+#[derive(Clone, Copy)]
+pub enum Command<'a> {
+    Error(u8),
+    Leap(u16),
+    Year(u8),
+    Month(u16, u8),
+    Date(u16, u8, u8),
+    Day(u16, u8, u8),
+    Weekday(u16, u8, u8),
+    Time(u8, u8, u8, i16),
+    Unix([i32; 14]),
+    Read(u8),
+    Kind,
+    Trimble,
+    Write(&'a [u64]),
+    Digits,
+    Number(u64, usize, usize),
+    Run,
+    Outcome(u32),
+    At(usize, usize),
+    Fill(Lent),
+    Correct(Change, Sheet),
+}
 
-pub const MONTH: u64 = 0x6d6f6e7468;
-
-pub const DATE: u64 = 0x64617465;
-
-pub const YEAR: u64 = 0x79656172;
-
-pub const DAY: u64 = 0x646179;
-
-pub const WEEKDAY: u64 = 0x7765656b646179;
-
-pub const TIME: u64 = 0x74696d65;
-
-pub const UNIX: u64 = 0x756e6978;
-
-pub const DIGITS: u64 = 0x646967697473;
-
-pub const NUMBER: u64 = 0x6e756d626572;
-
-pub const READ: u64 = 0x72656164;
-
-pub const TRIMBLE: u64 = 0x7472696d626c65;
-
-pub const KIND: u64 = 0x6b696e64;
-
-pub const RUN: u64 = 0x72756e;
-
-pub const WRITE: u64 = 0x7772697465;
-
-pub const AT: u64 = 0x6174;
-
-pub const OUTCOME: u64 = 0x6f7574636f6d65;
-
-pub const FILL: u64 = 0x66696c6c;
-
-pub const CORRECT: u64 = 0x636f7272656374;
-
-pub const MEND: u64 = 0x6d656e64;
-
-pub const UNFIT: u64 = 0x756e666974;
-
-// The types of a command's numbers, a digit for each: 1 is a u8, 2 a u16, 3 an i16, 4 a u64. No number is of type 5,
-// which any other word has.
-pub fn types_of(word: u64) -> u64 {
-    match word {
-        KIND | TRIMBLE | DIGITS | RUN => 0,
-        ERROR | YEAR | READ => 1,
-        LEAP => 2,
-        OUTCOME => 4,
-        MONTH => 21,
-        AT | FILL => 44,
-        DATE | DAY | WEEKDAY => 211,
-        NUMBER => 444,
-        TIME => 1113,
-        CORRECT | UNFIT => 4441,
-        MEND => 444144,
-        UNIX => 21111113,
-        _ => 5,
+fn magnitude(digits: &[u8]) -> u64 {
+    match digits {
+        [] => NO_NUMBER,
+        _ => digit_run::read_digits(digits).unwrap_or(NO_NUMBER),
     }
 }
 
-// What the text of a command shows in place of a zero byte: that of marks, which are kind 4, has a digit for each.
-pub fn base_of(word: u64, v: &Numbers) -> u8 {
-    if (word == KIND) | (word == TRIMBLE) | (word == DIGITS) | (word == NUMBER) {
-        return 0;
+// The number that a word is: digits, after a minus sign or none. Below zero it is the two's complement.
+pub fn number_of(word: &[u8]) -> u64 {
+    match word {
+        [b'-', digits @ ..] => magnitude(digits).wrapping_neg(),
+        _ => magnitude(word),
     }
-    if ((word == READ) | (word == WRITE)) & (v[1] != 4) {
-        return 0;
+}
+
+fn to<T: TryFrom<u64>>(number: &u64) -> Option<T>
+where
+    T::Error: Drop,
+{
+    T::try_from(*number).ok()
+}
+
+fn to_i16(number: &u64) -> Option<i16> {
+    i16::try_from(number.cast_signed()).ok()
+}
+
+fn to_u64(number: &u64) -> Option<u64> {
+    Some(*number).filter(|number| *number < NO_NUMBER)
+}
+
+fn to_usize(number: &u64) -> Option<usize> {
+    to_u64(number).map(|number| number as usize)
+}
+
+// The low 32 bits.
+fn to_u32(number: &u64) -> Option<u32> {
+    to_u64(number).map(|number| (number % 4294967296) as u32)
+}
+
+// The word's last eight bytes, without the zero bytes before them: no more of a word counts.
+fn last_eight(word: &[u8]) -> &[u8] {
+    let last = word.last_chunk::<8>().map_or(word, |last| last.as_slice());
+    match last.iter().position(|b| *b != 0) {
+        Some(zeros) => &last[zeros..],
+        None => b"",
     }
-    b'0'
+}
+
+// The first numbers of a reading, and zeros for the rest.
+fn unix(numbers: &[u64]) -> Option<[i32; 14]> {
+    let [year, month, day, weekday, hour, minute, second, offset] = numbers else {
+        return None;
+    };
+    let small = |number: &u64| to::<u8>(number).map(i32::from);
+    Some([
+        i32::from(to::<u16>(year)?),
+        small(month)?,
+        small(day)?,
+        small(weekday)?,
+        small(hour)?,
+        small(minute)?,
+        small(second)?,
+        i32::from(to_i16(offset)?),
+        0,
+        0,
+        0,
+        0,
+        0,
+        0,
+    ])
+}
+
+fn correct(numbers: &[u64], sheet: Sheet) -> Option<Command<'_>> {
+    let [marks, outcomes, place, mark] = numbers else {
+        return None;
+    };
+    let lent = Lent {
+        marks: to_usize(marks)?,
+        outcomes: to_usize(outcomes)?,
+    };
+    let change = Change {
+        lent,
+        place: to_usize(place)?,
+        mark: to(mark)?,
+    };
+    Some(Command::Correct(change, sheet))
+}
+
+fn mend(numbers: &[u64]) -> Option<Command<'_>> {
+    let [numbers @ .., at, outcome] = numbers else {
+        return None;
+    };
+    let sheet = Sheet::Mended(to_usize(at)?, to_u32(outcome)?);
+    correct(numbers, sheet)
+}
+
+impl<'a> Command<'a> {
+    // The command with this name and these numbers, if there is one. `write` takes any numbers.
+    pub fn parse(word: &[u8], numbers: &'a [u64]) -> Option<Command<'a>> {
+        Some(match (last_eight(word), numbers) {
+            (b"error", [place]) => Command::Error(to(place)?),
+            (b"leap", [year]) => Command::Leap(to(year)?),
+            (b"year", [digits]) => Command::Year(to(digits)?),
+            (b"month", [year, month]) => Command::Month(to(year)?, to(month)?),
+            (b"date", [year, month, day]) => Command::Date(to(year)?, to(month)?, to(day)?),
+            (b"day", [year, month, day]) => Command::Day(to(year)?, to(month)?, to(day)?),
+            (b"weekday", [year, month, day]) => Command::Weekday(to(year)?, to(month)?, to(day)?),
+            (b"time", [hour, minute, second, offset]) => {
+                Command::Time(to(hour)?, to(minute)?, to(second)?, to_i16(offset)?)
+            }
+            (b"unix", numbers) => Command::Unix(unix(numbers)?),
+            (b"read", [kind]) => Command::Read(to(kind)?),
+            (b"kind", []) => Command::Kind,
+            (b"trimble", []) => Command::Trimble,
+            (b"write", numbers) => Command::Write(numbers),
+            (b"digits", []) => Command::Digits,
+            (b"number", [number, count, room]) => {
+                Command::Number(to_u64(number)?, to_usize(count)?, to_usize(room)?)
+            }
+            (b"run", []) => Command::Run,
+            (b"outcome", [outcome]) => Command::Outcome(to_u32(outcome)?),
+            (b"at", [length, place]) => Command::At(to_usize(length)?, to_usize(place)?),
+            (b"fill", [marks, outcomes]) => Command::Fill(Lent {
+                marks: to_usize(marks)?,
+                outcomes: to_usize(outcomes)?,
+            }),
+            (b"correct", numbers) => correct(numbers, Sheet::Right)?,
+            (b"unfit", numbers) => correct(numbers, Sheet::Unfit)?,
+            (b"mend", numbers) => mend(numbers)?,
+            _ => return None,
+        })
+    }
+
+    // What the text of a command shows in place of a zero byte: that of marks has a digit for each.
+    pub fn base(&self) -> u8 {
+        match self {
+            Command::Kind | Command::Trimble | Command::Digits | Command::Number(..) => 0,
+            Command::Read(kind) if *kind != MINUTE => 0,
+            _ => b'0',
+        }
+    }
 }

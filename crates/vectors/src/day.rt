@@ -1,73 +1,61 @@
 // A recording that is made with the minute writer: whole minutes from the one that announces 8 November 2006 00:00 on,
 // a gap after each, and unsure marks if no further minute fits. The first 86,400 marks are a day.
+use crate::refusal::{Refusal, check};
 use c_readings::minutes::radio_clock_write_minute;
 
-pub type Recording = [u8; 100001];
-
 // More minutes than fit.
-const MINUTES: u32 = 1700;
+const MINUTES: u16 = 1700;
 
 // The minute of the second day that has a leap second.
-const LEAP: u32 = 1500;
+const LEAP: u16 = 1500;
 
-fn number(x: u32) -> i32 {
-    (x % 65536) as i32
-}
+const GAP: u8 = 2;
 
 // What the minute of this number announces. Summer time ends after three hours.
-fn minute_at(i: u32) -> [i32; 16] {
-    let summer = (i < 180) as u32 % 2;
-    let day = i / 1440 % 4;
+fn minute_at(i: u16) -> [i32; 16] {
+    let summer = i32::from(i < 180);
+    let day = i32::from(i / 1440 % 4);
     [
         2006,
         11,
-        number(8 + day),
-        number(3 + day),
-        number(i / 60 % 24),
-        number(i % 60),
+        8 + day,
+        3 + day,
+        i32::from(i / 60 % 24),
+        i32::from(i % 60),
         0,
-        number(60 + 60 * summer),
+        60 + 60 * summer,
         0,
         0,
-        number(summer),
-        number((i / 60 == 2) as u32),
-        number(((1440 < i) & (i <= LEAP)) as u32),
-        number((i % 7 == 0) as u32),
-        number(i % 16384),
-        number((i == LEAP) as u32),
+        summer,
+        i32::from(i / 60 == 2),
+        i32::from(1440 < i && i <= LEAP),
+        i32::from(i % 7 == 0),
+        i32::from(i % 16384),
+        i32::from(i == LEAP),
     ]
 }
 
-// Writes a minute from `at` on, and returns how many marks it has; none if it has no room.
-fn write_at(m: &mut [u8], at: usize, fields: &[i32]) -> usize {
+// Writes a minute to the front of `m`, and answers how many marks it has.
+fn write_minute(m: &mut [u8], i: u16) -> Result<usize, Refusal> {
     let mut count = 0;
-    if at < m.len() {
-        radio_clock_write_minute(fields, &mut m[at..], &mut count);
-    }
-    count
-}
-
-// Puts a minute and a gap, and returns the place after them; nothing if the minute has no room.
-fn put_minute(m: &mut Recording, at: usize, i: u32) -> usize {
-    let fields = minute_at(i);
-    let count = write_at(m, at, &fields);
-    if count == 0 {
-        return at;
-    }
-    let gap = std::num::wrapping_add_usize(at, count);
-    if gap < 100001 {
-        m[gap] = 2;
-        return gap + 1;
-    }
-    gap
+    check(radio_clock_write_minute(&minute_at(i), m, &mut count))?;
+    Ok(count)
 }
 
 // Puts the recording in place of unsure marks.
-pub fn make(m: &mut Recording) {
-    let mut at = 0;
-    let mut i = 0;
-    while i < MINUTES {
-        at = put_minute(m, at, i);
-        i += 1;
+pub fn make(m: &mut [u8]) {
+    let mut rest = m;
+    for i in 0..MINUTES {
+        let Ok(count) = write_minute(rest, i) else {
+            continue;
+        };
+        let Some((gap, after)) = rest
+            .get_mut(count..)
+            .and_then(|after| after.split_first_mut())
+        else {
+            return;
+        };
+        *gap = GAP;
+        rest = after;
     }
 }

@@ -1,51 +1,33 @@
 // Runs of digits: reading one, and writing a number as a given count of them.
-ghost use Rattle.std.specs.Prelude.{◌≡◌, ◌^◌, ◌≤◌, ◌++◌, length, drop};
+ghost use Rattle.std.specs.Prelude.{◌≡◌, ◌≤◌, ◌++◌, length, drop};
 ghost use Rattle.clock_time.specs.Writing.{written};
 ghost use Rattle.decimal.specs.Decimal.{digits};
 ghost use Rattle.vectors.specs.DigitRun.{read_digits, digits_answer, write_digits};
 
 use clock_time::Error;
 
-// The number that a run of digits stands for; or the place of the first byte that is no digit; or more than 19 bytes.
-#[derive(Clone, Copy)]
-pub enum DigitsRead {
-    Number(u64),
+// Why a run of digits is not read: the place of the first byte that is no digit, or more than 19 bytes.
+#[derive(Clone, Copy, Debug, PartialEq, Eq)]
+pub enum DigitsError {
     NotDigit(usize),
     TooLong,
 }
 
 // Reads a run of at most 19 digits.
-pub(crate) fn read_digits(s: &[u8]) -> DigitsRead
+pub(crate) fn read_digits(s: &[u8]) -> Result<u64, DigitsError>
     ensures { digits_answer result ≡ read_digits s.now }
 {
     if 19 < s.len() {
-        return DigitsRead::TooLong;
+        return Err(DigitsError::TooLong);
     }
     let mut number: u64 = 0;
-    let mut i: usize = 0;
-    while i < s.len() {
-        let b = s[i];
-        if !decimal::is_digit(b) {
-            return DigitsRead::NotDigit(i);
+    for (i, b) in s.iter().enumerate() {
+        if !decimal::is_digit(*b) {
+            return Err(DigitsError::NotDigit(i));
         }
-        number = 10 * number + (b - 48) as u64;
-        i += 1;
+        number = 10 * number + u64::from(*b - b'0');
     }
-    DigitsRead::Number(number)
-}
-
-// Ten to the power `k`, which fits 64 bits up to 19.
-fn power_of_ten(k: usize) -> u64
-    requires { k ≤ 19 }
-    ensures { result ≡ 10 ^ k }
-{
-    let mut power: u64 = 1;
-    let mut i: usize = 0;
-    while i < k {
-        power *= 10;
-        i += 1;
-    }
-    power
+    Ok(number)
 }
 
 // Fills the first `count` places of `out` with the last `count` digits of `number`.
@@ -54,10 +36,8 @@ fn fill_digits(number: u64, count: usize, out: &mut [u8])
     ensures { out.new ≡ digits count number ++ drop count out.old }
 {
     let mut rest = number;
-    let mut i = count;
-    while 0 < i {
-        i -= 1;
-        out[i] = 48 + (rest % 10) as u8;
+    for i in (0..count).rev() {
+        out[i] = b'0' + (rest % 10) as u8;
         rest /= 10;
     }
 }
@@ -70,7 +50,7 @@ pub(crate) fn write_digits(number: u64, count: usize, out: &mut [u8]) -> Result<
     if 19 < count {
         return Err(Error::Unrepresentable);
     }
-    if power_of_ten(count) <= number {
+    if 10u64.pow(count as u32) <= number {
         return Err(Error::Unrepresentable);
     }
     if out.len() < count {

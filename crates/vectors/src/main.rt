@@ -3,127 +3,101 @@
 // lines are only copied.
 #![tactic(auto)]
 
-ghost use Rattle.std.specs.Prelude.{◌≤◌, length};
-
 mod commands;
 mod dates;
 mod day;
 mod digit_run;
 mod digits;
-mod numbers;
 mod output;
 mod recordings;
+mod refusal;
 mod strings;
 mod text;
 
-use crate::numbers::Numbers;
+use commands::Command;
+use std::alloc::Global;
+use std::io;
 use std::io::Read;
 
-type Table = [u8; 1048576];
+// As much of a table is read.
+const LONGEST: u64 = 1048576;
 
-// Adds the answer to a command whose text is s.
-fn answer(word: u64, v: &Numbers, s: &[u8], a: &mut Numbers) {
-    match word {
-        commands::READ => strings::add_read(numbers::u8_at(v, 1), s, a),
-        commands::KIND => strings::add_kind(s, a),
-        commands::TRIMBLE => strings::add_trimble(s, a),
-        commands::UNIX => numbers::add(a, strings::unix_time(v)),
-        commands::RUN => numbers::add(a, dcf77_outcome::run_number(s) as u64),
-        commands::DIGITS => numbers::add(a, digits::read(s)),
-        commands::AT => numbers::add(a, recordings::outcome_at(v, s)),
-        commands::OUTCOME => numbers::add(a, recordings::outcome_time(v)),
-        commands::FILL | commands::CORRECT | commands::MEND | commands::UNFIT => {
-            recordings::answer(word, v, s, a)
+// So many numbers of a command count.
+const MOST_NUMBERS: usize = 23;
+
+// Puts the answer to a command whose text is s.
+fn put_command(rt: &impl Print, alloc: Global, command: Command<'_>, s: &[u8]) -> io::Result<()> {
+    match command {
+        Command::Error(place) => output::put_number(rt, dates::error_number(place)),
+        Command::Leap(year) => output::put_truth(rt, dates::is_leap_year(year)),
+        Command::Year(digits) => output::put_number(rt, dates::full_year(digits)),
+        Command::Month(year, month) => output::put_number(rt, dates::days_in_month(year, month)),
+        Command::Date(year, month, day) => output::put_truth(
+            rt,
+            dates::date_exists(year, month, day),
+        ),
+        Command::Day(year, month, day) => output::put(rt, dates::day_number(year, month, day)),
+        Command::Weekday(year, month, day) => output::put(rt, dates::weekday_of(year, month, day)),
+        Command::Time(hour, minute, second, offset) => {
+            output::put_truth(rt, dates::time_exists(hour, minute, second, offset))
         }
-        _ => numbers::add(a, dates::answer(word, v)),
+        Command::Unix(fields) => output::put(rt, strings::unix_time(&fields)),
+        Command::Read(kind) => strings::put_read(rt, kind, s),
+        Command::Kind => strings::put_kind(rt, s),
+        Command::Trimble => strings::put_trimble(rt, s),
+        Command::Write(numbers) => strings::put_written(rt, numbers),
+        Command::Digits => output::put(rt, digits::read(s)),
+        Command::Number(number, count, room) => digits::put_written(rt, number, count, room),
+        Command::Run => output::put_number(rt, dcf77_outcome::run_number(s)),
+        Command::Outcome(outcome) => output::put(rt, recordings::unix_time(outcome)),
+        Command::At(length, place) => recordings::put_outcome(rt, alloc, s, length, place),
+        Command::Fill(lent) => recordings::put_sheet(rt, alloc, s, lent),
+        Command::Correct(change, sheet) => recordings::put_corrected(rt, alloc, s, change, sheet),
     }
 }
 
-// Puts the answer to a command with this text.
-fn put_command(rt: &impl Print, word: u64, v: &Numbers, s: &[u8]) {
-    let mut space = [0u8; 256];
-    let length = text::decode(s, commands::base_of(word, v), &mut space);
-    let mut a = [0u64; 24];
-    answer(word, v, text::start(&space, length), &mut a);
-    output::put_numbers(rt, &a);
-}
-
-// Puts the answer to a command that writes, and the buffer that it was lent, with as much room as the last number says.
-fn put_written(rt: &impl Print, word: u64, v: &Numbers) {
-    let mut space = [b'.'; 256];
-    let count = if word == commands::NUMBER {
-        digits::write(v, &mut space)
-    } else {
-        strings::write(v, &mut space)
-    };
-    output::put_number(rt, count);
-    output::put_text(rt, &space, numbers::last(v), commands::base_of(word, v));
-}
-
-// Puts the answer to a line, a question mark if it is no command; `write` takes any numbers.
-fn put_answer(rt: &impl Print, line: &[u8]) {
-    let colon = text::place_of(line, 0, b':');
-    let head = text::first(line, colon);
-    let blank = text::place_of(head, 0, b' ');
-    let word = text::pack(text::first(head, blank));
-    let mut v = [0u64; 24];
-    numbers::read_all(head, blank, &mut v);
-    let known = numbers::are_of(&v, commands::types_of(word));
-    if (word == commands::WRITE) | (known & (word == commands::NUMBER)) {
-        put_written(rt, word, &v);
-    } else if known {
-        put_command(rt, word, &v, text::after(line, colon));
-    } else {
-        output::put(rt, b" ?");
-    }
-}
-
-fn put_line(rt: &impl Print, line: &[u8]) {
-    output::put(rt, line);
-    let b = text::byte_at(line, 0);
-    if (b != 0) & (b != b'#') {
-        output::put(rt, b" =");
-        put_answer(rt, line);
-    }
-    output::put(rt, b"\n");
-}
-
-fn answer_lines(rt: &impl Print, s: &[u8]) {
-    let mut at = 0;
-    while at < s.len() {
-        let end = text::place_of(s, at, b'\n');
-        put_line(rt, &s[at..end]);
-        at = end + 1;
-    }
-}
-
-// Reads until the space is full, the input ends or a read fails, and returns how many bytes came.
-fn read_full<I: Read>(input: &mut I, space: &mut [u8]) -> usize
-    ensures { result ≤ length space.new }
-{
-    let mut done = 0;
-    while done < space.len() {
-        let n = input.read(&mut space[done..]).unwrap_or(0);
-        if n == 0 {
-            return done;
+// Puts the answer to a line, a question mark if it is no command.
+fn put_answer(rt: &impl Print, alloc: Global, line: &[u8]) -> io::Result<()> {
+    let (head, shown) = text::parts(line);
+    let mut words = head.split(|b| *b == b' ');
+    let name = words.next().unwrap_or(b"");
+    let numbers: Vec<u64> = words
+        .take(MOST_NUMBERS)
+        .map(commands::number_of)
+        .collect(alloc)?;
+    match Command::parse(name, &numbers) {
+        Some(command) => {
+            let s = text::decode(alloc, shown, command.base())?;
+            put_command(rt, alloc, command, &s)
         }
-        done += n;
+        None => rt.write_all(b" ?"),
     }
-    done
 }
 
-// Answers the input, which is read whole, as far as there is space.
-fn answer_input<I: Read>(rt: &impl Print, input: &mut I, space: &mut [u8]) {
-    let n = read_full(input, space);
-    answer_lines(rt, &space[..n]);
+// Puts a line, and the answer to it.
+fn put_line(rt: &impl Print, alloc: Global, line: &[u8]) -> io::Result<()> {
+    rt.write_all(line)?;
+    match line {
+        [] | [0 | b'#', ..] => {}
+        _ => {
+            rt.write_all(b" =")?;
+            put_answer(rt, alloc, line)?;
+        }
+    }
+    rt.write_all(b"\n")
 }
 
-// Lends the array as a slice. Behind a reference its length needs no proof; that of a local array so long finds none.
-fn answer_in<I: Read>(rt: &impl Print, input: &mut I, table: &mut Table) {
-    answer_input(rt, input, table);
+// Reads the table, to the end of the input or the read that fails, and puts each line with the answer to it.
+fn put_table(rt: &impl Print, alloc: Global, input: &mut impl Read) -> io::Result<()> {
+    let mut table = Vec::new(alloc);
+    let _ = input.take(LONGEST).read_to_end(&mut table);
+    for line in table.split_inclusive(|b| *b == b'\n') {
+        put_line(rt, alloc, line.strip_suffix(b"\n").unwrap_or(line))?;
+    }
+    Ok(())
 }
 
+// A write that fails ends the table, and is not told.
 fn main(rt: HostRuntime) {
-    let mut table = [0u8; 1048576];
-    answer_in(&rt, &mut rt.stdin(), &mut table);
+    let _ = put_table(&rt, rt.alloc(), &mut rt.stdin());
 }

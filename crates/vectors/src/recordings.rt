@@ -3,154 +3,160 @@
 // number, and gives the number there; `fill` makes the sheet; `correct` puts a mark at a place with a sheet that is
 // right, `mend` with one that had a number put at a place of it, and `unfit` with one that holds 7 everywhere.
 // `outcome` has an outcome as its only number, and gives its Unix time.
-use crate::day::Recording;
-use crate::numbers::Numbers;
-use crate::{commands, day, numbers, text};
+use crate::refusal::{Refusal, check};
+use crate::{day, output};
 use c_recordings::{
     radio_clock_correct_mark, radio_clock_fill_outcomes, radio_clock_outcome_at,
     radio_clock_outcome_unix_time,
 };
+use clock_time::Error;
+use std::alloc::{AllocError, Global};
+use std::io;
 
-type Outcomes = [u32; 100001];
+// How many marks and outcomes there are to lend.
+const LENGTH: usize = 100001;
 
-// A sum with one more number. It depends on the order too.
-fn add(sum: u64, number: u32) -> u64 {
-    (sum % 4294967296 * 16777619 + number as u64) % 4294967296
+// How many marks and outcomes are lent.
+#[derive(Clone, Copy)]
+pub struct Lent {
+    pub marks: usize,
+    pub outcomes: usize,
 }
 
-// The sum of the first `count` outcomes.
-fn sum(o: &Outcomes, count: usize) -> u64 {
-    let mut sum = 0;
-    let mut i = 0;
-    while i < count {
-        if 100001 <= i {
-            return sum;
+// A mark to put at a place.
+#[derive(Clone, Copy)]
+pub struct Change {
+    pub lent: Lent,
+    pub place: usize,
+    pub mark: u8,
+}
+
+// The sheet that a correction begins with: the right one, one with a number put at a place of it, or 7 everywhere.
+#[derive(Clone, Copy)]
+pub enum Sheet {
+    Right,
+    Mended(usize, u32),
+    Unfit,
+}
+
+#[derive(Drop)]
+struct Recording {
+    marks: Vec<u8>,
+    outcomes: Vec<u32>,
+}
+
+// The first n, or all if they are fewer.
+fn first<T>(s: &[T], n: usize) -> &[T] {
+    s.get(..n).unwrap_or(s)
+}
+
+// A sum that depends on the order too.
+fn sum<T: Copy + Into<u32>>(s: &[T]) -> u32 {
+    s.iter().fold(0, |sum: u32, x| {
+        let x: u32 = (*x).into();
+        sum.wrapping_mul(16777619).wrapping_add(x)
+    })
+}
+
+impl Recording {
+    // The marks of a text or, if it is empty, of the day, in place of unsure marks; and 7 everywhere in the sheet.
+    fn new(alloc: Global, s: &[u8]) -> Result<Recording, AllocError> {
+        let mut marks = vec![in alloc; 3u8; LENGTH]?;
+        if s.is_empty() {
+            day::make(&mut marks);
+        } else if let Some(front) = marks.as_mut_slice().get_mut(..s.len()) {
+            front.copy_from_slice(s);
         }
-        sum = add(sum, o[i]);
-        i += 1;
+        let outcomes = vec![in alloc; 7u32; LENGTH]?;
+        Ok(Recording { marks, outcomes })
     }
-    sum
-}
 
-fn sum_of_marks(m: &[u8]) -> u64 {
-    let mut sum = 0;
-    let mut i = 0;
-    while i < m.len() {
-        sum = add(sum, text::byte_at(m, i) as u32);
-        i += 1;
+    fn outcome_at(&self, length: usize, place: usize) -> Result<u32, Refusal> {
+        let mut number = 0;
+        check(radio_clock_outcome_at(first(&self.marks, length), place, &mut number))?;
+        Ok(number)
     }
-    sum
-}
 
-// Fills the first `count` outcomes; LentMemory (20) if there are fewer.
-fn fill_first(m: &[u8], o: &mut [u32], count: usize) -> u8 {
-    if o.len() < count {
-        return 20;
+    // Makes the sheet; refuses with LentMemory (20) if there are fewer outcomes than are lent.
+    fn fill(&mut self, lent: Lent) -> Result<(), Refusal> {
+        match self.outcomes.as_mut_slice().get_mut(..lent.outcomes) {
+            Some(outcomes) => check(radio_clock_fill_outcomes(
+                first(&self.marks, lent.marks),
+                outcomes,
+            )),
+            None => Err(Refusal::from(Error::LentMemory)),
+        }
     }
-    radio_clock_fill_outcomes(m, &mut o[0..count])
-}
 
-// Makes the sheet, of as many numbers as the command says.
-fn fill(v: &Numbers, m: &Recording, o: &mut Outcomes) -> u8 {
-    fill_first(text::first(m, v[1] as usize), o, v[2] as usize)
-}
-
-// Corrects the first `length` marks and the first `count` outcomes; 0 changes if they are fewer.
-fn correct_first(
-    m: &mut [u8],
-    length: usize,
-    o: &mut [u32],
-    count: usize,
-    place: usize,
-    mark: u8,
-) -> u64 {
-    if m.len() < length {
-        return 0;
+    fn mend(&mut self, at: usize, number: u32) {
+        if let Some(outcome) = self.outcomes.get_mut(at) {
+            *outcome = number;
+        }
     }
-    if o.len() < count {
-        return 0;
-    }
-    let mut changed = 0;
-    let refusal = radio_clock_correct_mark(
-        &mut m[0..length],
-        &mut o[0..count],
-        place,
-        mark,
-        &mut changed,
-    );
-    numbers::answer_number(refusal, changed as u64)
-}
 
-fn correct(v: &Numbers, m: &mut Recording, o: &mut Outcomes) -> u64 {
-    let mark = numbers::u8_at(v, 4);
-    correct_first(m, v[1] as usize, o, v[2] as usize, v[3] as usize, mark)
-}
-
-// Adds what a correction answers, then the sums of the marks, of the outcomes, and of these once they are made anew.
-fn add_corrected(v: &Numbers, m: &mut Recording, o: &mut Outcomes, a: &mut Numbers) {
-    let count = v[2] as usize;
-    let answer = correct(v, m, o);
-    numbers::add(a, answer);
-    numbers::add(a, sum_of_marks(text::first(m, v[1] as usize)));
-    numbers::add(a, sum(o, count));
-    fill(v, m, o);
-    numbers::add(a, sum(o, count));
-}
-
-// Puts a number at a place, and nothing past the end.
-fn put_number(o: &mut Outcomes, at: usize, number: u64) {
-    if at < 100001 {
-        o[at] = (number % 4294967296) as u32;
+    // Puts a mark, and answers how many outcomes change: 0 if there are fewer marks or outcomes than are lent.
+    fn correct(&mut self, change: Change) -> Result<usize, Refusal> {
+        let Some(marks) = self.marks.as_mut_slice().get_mut(..change.lent.marks) else {
+            return Ok(0);
+        };
+        let Some(outcomes) = self.outcomes.as_mut_slice().get_mut(..change.lent.outcomes) else {
+            return Ok(0);
+        };
+        let mut changed = 0;
+        check(radio_clock_correct_mark(marks, outcomes, change.place, change.mark, &mut changed))?;
+        Ok(changed)
     }
 }
 
-// The Unix time that an outcome announces, by the first number's last 32 bits.
-pub fn outcome_time(v: &Numbers) -> u64 {
+// The Unix time that an outcome announces.
+pub fn unix_time(outcome: u32) -> Result<i64, Refusal> {
     let mut time = 0;
-    let refusal = radio_clock_outcome_unix_time((v[1] % 4294967296) as u32, &mut time);
-    numbers::answer_number(refusal, numbers::bits(time))
+    check(radio_clock_outcome_unix_time(outcome, &mut time))?;
+    Ok(time)
 }
 
-// Puts the marks of a text or, if it is empty, of the day.
-fn load(s: &[u8], m: &mut Recording) {
-    if s.len() == 0 {
-        day::make(m);
-    } else {
-        clock_time::write_bytes(true, s, m);
-    }
+// Puts the number that the rule gives a place.
+pub fn put_outcome(
+    rt: &impl Print,
+    alloc: Global,
+    s: &[u8],
+    length: usize,
+    place: usize,
+) -> io::Result<()> {
+    let recording = Recording::new(alloc, s)?;
+    output::put(rt, recording.outcome_at(length, place))
 }
 
-fn outcome_in(v: &Numbers, m: &Recording) -> u64 {
-    let mut number = 0;
-    let marks = text::first(m, v[1] as usize);
-    let refusal = radio_clock_outcome_at(marks, v[2] as usize, &mut number);
-    numbers::answer_number(refusal, number as u64)
+// Puts how many outcomes a sheet has, and their sum.
+pub fn put_sheet(rt: &impl Print, alloc: Global, s: &[u8], lent: Lent) -> io::Result<()> {
+    let mut recording = Recording::new(alloc, s)?;
+    output::put(rt, recording.fill(lent).map(|()| lent.outcomes))?;
+    output::put_number(rt, sum(first(&recording.outcomes, lent.outcomes)))
 }
 
-// The number that the rule gives a place.
-pub fn outcome_at(v: &Numbers, s: &[u8]) -> u64 {
-    let mut m = [3u8; 100001];
-    load(s, &mut m);
-    outcome_in(v, &m)
-}
-
-// Makes the sheet, unless it is to hold 7 everywhere, and adds the answer to a command.
-pub fn answer(word: u64, v: &Numbers, s: &[u8], a: &mut Numbers) {
-    let mut m = [3u8; 100001];
-    let mut o = [7u32; 100001];
-    load(s, &mut m);
-    if word == commands::UNFIT {
-        add_corrected(v, &mut m, &mut o, a);
-        return;
+// Puts what a correction answers, then the sums of the marks, of the outcomes, and of these once they are made anew.
+pub fn put_corrected(
+    rt: &impl Print,
+    alloc: Global,
+    s: &[u8],
+    change: Change,
+    sheet: Sheet,
+) -> io::Result<()> {
+    let lent = change.lent;
+    let mut recording = Recording::new(alloc, s)?;
+    match sheet {
+        Sheet::Right => {
+            let _ = recording.fill(lent);
+        }
+        Sheet::Mended(at, number) => {
+            let _ = recording.fill(lent);
+            recording.mend(at, number);
+        }
+        Sheet::Unfit => {}
     }
-    let refusal = fill(v, &m, &mut o);
-    if word == commands::FILL {
-        numbers::add(a, numbers::answer_number(refusal, v[2]));
-        numbers::add(a, sum(&o, v[2] as usize));
-        return;
-    }
-    if word == commands::MEND {
-        put_number(&mut o, v[5] as usize, v[6]);
-    }
-    add_corrected(v, &mut m, &mut o, a);
+    output::put(rt, recording.correct(change))?;
+    output::put_number(rt, sum(first(&recording.marks, lent.marks)))?;
+    output::put_number(rt, sum(first(&recording.outcomes, lent.outcomes)))?;
+    let _ = recording.fill(lent);
+    output::put_number(rt, sum(first(&recording.outcomes, lent.outcomes)))
 }

@@ -2,112 +2,139 @@
 // has a digit for each mark. `read` reads a text, and adds 1 if it is written back the same; `kind` tells the kind
 // first; `trimble` reads a Trimble string, which is not written; `write` writes numbers into a lent buffer; `unix`
 // gives the Unix time of numbers.
-use crate::numbers::Numbers;
-use crate::text::Text;
-use crate::{numbers, text};
+ghost use Rattle.std.specs.Prelude.{◌≤◌};
+
+use crate::output;
+use crate::refusal::{Refusal, check};
 use c_readings::instant::radio_clock_unix_time;
 use c_readings::minutes::{radio_clock_read_minute, radio_clock_write_minute};
 use c_readings::strings::{radio_clock_kind, radio_clock_read, radio_clock_write};
 use c_readings::trimble::radio_clock_read_trimble;
+use std::io;
 
-const MINUTE: u8 = 4;
+pub const MINUTE: u8 = 4;
+
+// The most numbers that a reading has.
+const MOST_FIELDS: usize = 17;
 
 // How many numbers a reading of this kind has.
-fn count_of(kind: u8) -> usize {
+fn count_of(kind: u8) -> usize
+    ensures { result ≤ 17 }
+{
     match kind {
         2 => 17,
-        4 => 16,
+        MINUTE => 16,
         _ => 14,
     }
 }
 
-// The first n numbers, or all if they are fewer.
-fn first(fields: &[i32], n: usize) -> &[i32] {
-    if fields.len() < n {
-        return fields;
-    }
-    &fields[0..n]
+fn read(kind: u8, s: &[u8], fields: &mut [i32]) -> Result<(), Refusal> {
+    check(match kind {
+        MINUTE => radio_clock_read_minute(s, fields),
+        _ => radio_clock_read(kind, s, fields),
+    })
 }
 
-fn read(kind: u8, s: &[u8], fields: &mut [i32]) -> u8 {
-    if kind == MINUTE {
-        return radio_clock_read_minute(s, fields);
-    }
-    radio_clock_read(kind, s, fields)
+fn write(kind: u8, fields: &[i32], lent: &mut [u8]) -> Result<usize, Refusal> {
+    let mut count = 0;
+    check(match kind {
+        MINUTE => radio_clock_write_minute(fields, lent, &mut count),
+        _ => radio_clock_write(kind, fields, lent, &mut count),
+    })?;
+    Ok(count)
 }
 
-fn write_kind(kind: u8, fields: &[i32], space: &mut [u8], count: &mut usize) -> u8 {
-    if kind == MINUTE {
-        return radio_clock_write_minute(fields, space, count);
+fn kind_of(s: &[u8]) -> Result<u8, Refusal> {
+    let mut kind = 0;
+    check(radio_clock_kind(s, &mut kind))?;
+    Ok(kind)
+}
+
+fn put_fields(rt: &impl Print, fields: &[i32]) -> io::Result<()> {
+    for field in fields {
+        output::put_number(rt, *field)?;
     }
-    radio_clock_write(kind, fields, space, count)
+    Ok(())
 }
 
 // True if the numbers are written as s.
 fn are_written_as(kind: u8, fields: &[i32], s: &[u8]) -> bool {
     let mut space = [0u8; 66];
-    let mut count = 0;
-    let refusal = write_kind(kind, fields, &mut space, &mut count);
-    (refusal == 0) & (text::first(&space, count) == s)
-}
-
-// Adds the numbers that s is read as, and whether they are written back as s.
-pub fn add_read(kind: u8, s: &[u8], a: &mut Numbers) {
-    let mut space = [0i32; 17];
-    let refusal = read(kind, s, &mut space);
-    if refusal != 0 {
-        numbers::add(a, numbers::answer_number(refusal, 0));
-        return;
-    }
-    let fields = first(&space, count_of(kind));
-    numbers::add_fields(a, fields);
-    numbers::add(a, are_written_as(kind, fields, s) as u64);
-}
-
-// Adds the kind of s, and what it is read as.
-pub fn add_kind(s: &[u8], a: &mut Numbers) {
-    let mut kind = 0;
-    let refusal = radio_clock_kind(s, &mut kind);
-    numbers::add(a, numbers::answer_number(refusal, kind as u64));
-    if refusal == 0 {
-        add_read(kind, s, a);
+    match write(kind, fields, &mut space) {
+        Ok(count) => space.get(..count).unwrap_or(&space) == s,
+        Err(_) => false,
     }
 }
 
-// Adds the numbers that s is read as, as a Trimble string.
-pub fn add_trimble(s: &[u8], a: &mut Numbers) {
-    let mut fields = [0i32; 15];
-    let refusal = radio_clock_read_trimble(s, &mut fields);
-    if refusal != 0 {
-        numbers::add(a, numbers::answer_number(refusal, 0));
-        return;
+// Puts the numbers that s is read as, and whether they are written back as s.
+pub fn put_read(rt: &impl Print, kind: u8, s: &[u8]) -> io::Result<()> {
+    let mut space = [0; MOST_FIELDS];
+    if let Err(refusal) = read(kind, s, &mut space) {
+        return output::put_refusal(rt, refusal);
     }
-    numbers::add_fields(a, &fields);
+    let fields = &space[..count_of(kind)];
+    put_fields(rt, fields)?;
+    output::put_truth(rt, are_written_as(kind, fields, s))
+}
+
+// Puts the kind of s, and what it is read as.
+pub fn put_kind(rt: &impl Print, s: &[u8]) -> io::Result<()> {
+    let kind = kind_of(s);
+    output::put(rt, kind)?;
+    match kind {
+        Ok(kind) => put_read(rt, kind, s),
+        Err(_) => Ok(()),
+    }
+}
+
+// Puts the numbers that s is read as, as a Trimble string.
+pub fn put_trimble(rt: &impl Print, s: &[u8]) -> io::Result<()> {
+    let mut fields = [0; 15];
+    match check(radio_clock_read_trimble(s, &mut fields)) {
+        Ok(()) => put_fields(rt, &fields),
+        Err(refusal) => output::put_refusal(rt, refusal),
+    }
 }
 
 // Writes into the first `room` bytes of the space; none if it has fewer.
-fn write_in(kind: u8, fields: &[i32], space: &mut [u8], room: usize) -> u64 {
-    if space.len() < room {
-        return 0;
+fn write_first(kind: u8, fields: &[i32], space: &mut [u8], room: usize) -> Result<usize, Refusal> {
+    match space.get_mut(..room) {
+        Some(lent) => write(kind, fields, lent),
+        None => Ok(0),
     }
-    let mut count = 0;
-    let refusal = write_kind(kind, fields, &mut space[0..room], &mut count);
-    numbers::answer_number(refusal, count as u64)
 }
 
-// Writes all numbers but the kind, the first, and the room, the last.
-pub fn write(v: &Numbers, space: &mut Text) -> u64 {
-    let mut fields = [0i32; 17];
-    numbers::put_fields(v, 2, &mut fields);
-    let given = first(&fields, std::num::wrapping_sub_u64(v[0], 2) as usize);
-    write_in(numbers::u8_at(v, 1), given, space, numbers::last(v))
+// Puts how many bytes are written, and the buffer. The first number is the kind, the last the room, and those between
+// are what is written; of fewer than two numbers these are zeros.
+pub fn put_written(rt: &impl Print, numbers: &[u64]) -> io::Result<()> {
+    let kind = numbers.first().copied().unwrap_or(0);
+    let room = numbers.last().copied().unwrap_or(0) as usize;
+    let given: &[u64] = match numbers {
+        [_, given @ .., _] => given,
+        _ => &[0; MOST_FIELDS],
+    };
+    let mut fields = [0; MOST_FIELDS];
+    for (field, number) in fields.iter_mut().zip(given) {
+        *field = low_bits(*number);
+    }
+    let fields = fields.get(..given.len()).unwrap_or(&fields);
+    let mut space = output::EMPTY;
+    output::put(
+        rt,
+        write_first((kind % 256) as u8, fields, &mut space, room),
+    )?;
+    let base = if kind == u64::from(MINUTE) { b'0' } else { 0 };
+    output::put_text(rt, &space, room, base)
+}
+
+// The low 32 bits as a signed number.
+fn low_bits(number: u64) -> i32 {
+    ((number % 4294967296) as u32).cast_signed()
 }
 
 // The Unix time of the numbers.
-pub fn unix_time(v: &Numbers) -> u64 {
-    let mut fields = [0i32; 14];
-    numbers::put_fields(v, 1, &mut fields);
+pub fn unix_time(fields: &[i32]) -> Result<i64, Refusal> {
     let mut time = 0;
-    let refusal = radio_clock_unix_time(&fields, &mut time);
-    numbers::answer_number(refusal, numbers::bits(time))
+    check(radio_clock_unix_time(fields, &mut time))?;
+    Ok(time)
 }

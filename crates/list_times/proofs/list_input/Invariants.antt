@@ -3,4 +3,4 @@ use Rattle.list_times.specs.Progress.{Reaches}
 use Rattle.list_times.proofs.list_input.Given as goal
 
 abbrev pub invariant-loop : goal.invariant-loop
-invariant-loop g l = Reaches l.initial.state.listing l.state.listing
+invariant-loop g l = Reaches l.initial.listing l.listing

@@ -1,12 +1,10 @@
--- The listing is the one after the first i bytes, and each turn takes some, as the buffer has room for any line.
-use Prim.Native.Nat.{◌≤◌, ◌-◌}
-use mathlib.Core.Path.{◌≡◌}
-use lib.ListN.{length, take}
-use Rattle.listing.specs.Listing.{after}
+-- The listing is the one after the bytes that are passed, and each turn passes some, as the buffer has room for any line.
+use lib.ListN.{length}
+use Rattle.list_times.proofs.ProgressLaws.{Passed}
 use Rattle.list_times.proofs.write_lines.Given as goal
 
-abbrev pub invariant-loop-i : goal.invariant-loop-i
-invariant-loop-i l = (l.i ≤ length l.s) × (l.listing ≡ after l.state.listing (take l.i l.s))
+abbrev pub invariant-loop-rest : goal.invariant-loop-rest
+invariant-loop-rest l = Passed l.fn.listing l.s l.listing l.rest
 
-abbrev pub decreases-loop-i : goal.decreases-loop-i
-decreases-loop-i l = length l.s - l.i
+abbrev pub decreases-loop-rest : goal.decreases-loop-rest
+decreases-loop-rest l = length l.rest

@@ -2,14 +2,14 @@ use Rattle.clock_time.proofs.Tests.{tests}
 use Rattle.list_times.specs.Request.{read_request}
 use Rattle.list_times.proofs.request.read_request.Goals as goal
 
-pub returns-then-count-lt2 : goal.returns-then-count-lt2
+pub returns-in-0 : goal.returns-in-0
 unfolding read_request
-returns-then-count-lt2 c = search tests
+returns-in-0 c = search tests
 
-pub returns-then-count-gt2 : goal.returns-then-count-gt2
+pub returns-in-2 : goal.returns-in-2
 unfolding read_request
-returns-then-count-gt2 c = search tests
+returns-in-2 c = search (tests, c.read_argument.ensures)
 
-pub returns : goal.returns
+pub returns-in_default : goal.returns-in_default
 unfolding read_request
-returns c = search (tests, c.read_argument.ensures)
+returns-in_default c = search tests

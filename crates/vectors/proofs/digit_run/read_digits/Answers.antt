@@ -12,22 +12,14 @@ loop-i-init c = passed_none c.args.s.now
 
 pub returns-then-not-is_digit : goal.returns-then-not-is_digit
 returns-then-not-is_digit c =
-    let l = c.loop-i in
     let o = sym c.is_digit.ensures ∙ c.if-not-is_digit.true in
-    let e = passed_other l.invariant c.loop-i-test.true o in
-    read_offence _ c.if-s-gt19.false e c.loop-i-test.true
+    read_offence _ c.if-s-gt19.false (passed_other c.loop-i.invariant c.loop-i-test.true o) c.loop-i-test.true
+
+pub overflow_sub-b : goal.overflow_sub-b
+overflow_sub-b c = (digit_range _ (sym c.is_digit.ensures ∙ c.if-not-is_digit.false)).0
 
 pub overflow_mul-number : goal.overflow_mul-number
 overflow_mul-number c =
-    let d = sym c.is_digit.ensures ∙ c.if-not-is_digit.false in
-    let p = passed_digit c.loop-i.invariant c.loop-i-test.true d in
-    omega (arith, passed_small p (omega arith))
-
-pub overflow_sub-number : goal.overflow_sub-number
-overflow_sub-number c = (digit_range _ (sym c.is_digit.ensures ∙ c.if-not-is_digit.false)).0
-
-pub overflow_cast-number : goal.overflow_cast-number
-overflow_cast-number c =
     let d = sym c.is_digit.ensures ∙ c.if-not-is_digit.false in
     let p = passed_digit c.loop-i.invariant c.loop-i-test.true d in
     omega (arith, passed_small p (omega arith))
@@ -36,13 +28,14 @@ pub overflow_add-number : goal.overflow_add-number
 overflow_add-number c =
     let d = sym c.is_digit.ensures ∙ c.if-not-is_digit.false in
     let p = passed_digit c.loop-i.invariant c.loop-i-test.true d in
-    omega (arith, passed_small p (omega arith))
+    let h = c.from.ensures in
+    omega (arith, passed_small p (omega arith), h)
 
 pub loop-i-preserved : goal.loop-i-preserved
 loop-i-preserved c =
-    let l = c.loop-i in
     let d = sym c.is_digit.ensures ∙ c.if-not-is_digit.false in
-    passed_digit l.invariant c.loop-i-test.true d
+    let h = c.from.ensures in
+    rw h (passed_digit c.loop-i.invariant c.loop-i-test.true d)
 
 pub returns : goal.returns
 returns c =

@@ -7,8 +7,8 @@ pub returns-then-count-gt19 : goal.returns-then-count-gt19
 returns-then-count-gt19 c =
     write_unwritable c.args.number c.args.count c.args.out.now (λ w. omega arith)
 
-pub returns-then-power_of_ten-number : goal.returns-then-power_of_ten-number
-returns-then-power_of_ten-number c =
+pub returns-then-pow-number : goal.returns-then-pow-number
+returns-then-pow-number c =
     write_unwritable c.args.number c.args.count c.args.out.now (λ w. omega arith)
 
 pub returns-then-out-count : goal.returns-then-out-count

@@ -1,4 +1,4 @@
--- Laws of the feed over a list, at a place i of it.
+-- Laws of the feed over a list, and of what it takes with no event.
 use Prim.Native.Nat.{ℕ, suc, ◌+◌, ◌-◌}
 use native.Mathlib.Omega.{arith}
 use native.Mathlib.Numerals.{one-add}

@@ -1,12 +1,12 @@
--- Laws of the feed over a list, at a place i of it.
-use Prim.Native.Nat.{ℕ, suc, ◌+◌, ◌≤◌, ◌-◌}
+-- Laws of the feed over a list, and of what it takes with no event.
+use Prim.Native.Nat.{ℕ, suc, ◌+◌, ◌-◌}
 use native.Mathlib.Omega.{arith}
 use native.Mathlib.Numerals.{one-add}
 use native.Mathlib.Nat.{add-zero, zero-add, add_assoc, sub-zero, sub_self}
 use mathlib.Core.Path.{◌≡◌, refl, sym, ap, ◌∙◌}
 use mathlib.Core.Bool.{Bool, true, false, cond, true≢false}
 use mathlib.Core.List.{List, [], ◌∷◌}
-use lib.ListN.{length, take, drop, length-drop, drop_of_length-le}
+use lib.ListN.{length, take, drop, length-drop}
 use lib.Seq.{take_all}
 use Rattle.framing.specs.declared.Framer.{Framer}
 use Rattle.framing.specs.declared.Event.{Event}
@@ -26,11 +26,6 @@ after_taking_twice m n r = simp add_assoc
 
 pub after_taking_one : (n : ℕ) (r : FeedResult) → after_taking 1 (after_taking n r) ≡ after_taking (suc n) r
 after_taking_one n r = simp (after_taking_twice, one-add)
-
-pub feed_end : (f : Framer) (s : List ℕ) (i : ℕ) → length s ≤ i
-    → feed_of f (drop i s) ≡ record { framer = f; event = Nothing; taken = 0 }
-unfolding feed_of
-feed_end f s i h = rw (drop_of_length-le s h)
 
 nothing_yet : (a : Event) → is_nothing a ≡ true → a ≡ Nothing
 nothing_yet Nothing h = refl

@@ -4,17 +4,14 @@ ghost use Rattle.clock_time.specs.Reading.{answer_of};
 ghost use Rattle.clock_time.specs.Called.{called, called_answer};
 ghost use Rattle.c_readings.specs.Strings.{unix_time_of};
 
+use clock_time::{Error, called};
 
-fn put_instant(answer: Result<i64, Error>, time: &mut i64) -> u8
-    ensures { called result time.new ≡ called_answer time.old (answer_of answer) }
+#[tactic(auto, unfolding(crate::specs::Strings::unix_time_of))]
+fn unix_time_of(fields: &[i32]) -> Result<i64, Error>
+    ensures { answer_of result ≡ unix_time_of fields.now }
 {
-    match answer {
-        Ok(z) => {
-            *time = z;
-            0
-        }
-        Err(e) => u8::from(e),
-    }
+    let t = c_fields::first_time_of(fields)?;
+    calendar::unix_time::unix_time(t)
 }
 
 // Leaves the Unix time of the first 14 numbers behind `time`. Refuses with Unrepresentable (23) if they are no valid
@@ -22,8 +19,5 @@ fn put_instant(answer: Result<i64, Error>, time: &mut i64) -> u8
 pub fn radio_clock_unix_time(fields: &[i32], time: &mut i64) -> u8
     ensures { called result time.new ≡ called_answer time.old (unix_time_of fields.now) }
 {
-    match c_fields::first_time_of(fields) {
-        Ok(t) => put_instant(calendar::unix_time::unix_time(t), time),
-        Err(e) => u8::from(e),
-    }
+    called::put(unix_time_of(fields), time)
 }

@@ -1,5 +1,6 @@
 // The C API of recordings: the outcomes of a recording of marks. Each exported function returns 0, or the number of
-// its refusal, and leaves its results in memory that the caller lends. A refusal changes nothing lent.
+// its refusal, and leaves its results in memory that the caller lends. A refusal changes nothing lent. The C interface
+// needs the statuses as numbers, and the results behind pointers; all below it answers a Result.
 #![tactic(auto)]
 
 ghost use Rattle.std.specs.Prelude.{◌≡◌};
@@ -7,19 +8,14 @@ ghost use Rattle.recording.specs.Recording.{outcome_at, fill_outcomes, recorded,
 ghost use Rattle.clock_time.specs.Called.{called, called_answer, called_memory, called_both};
 ghost use Rattle.dcf77_outcome.specs.Instant.{outcome_unix_time};
 
+use clock_time::called;
 
 // Leaves the number that the rule gives a place behind `number`. Refuses with LentMemory (20) if there are more than
 // 100,000 marks, then with Place (21) if there is no such place.
 pub fn radio_clock_outcome_at(marks: &[u8], place: usize, number: &mut u32) -> u8
     ensures { called result number.new ≡ called_answer number.old (outcome_at marks.now place) }
 {
-    match recording::outcome_at(marks, place) {
-        Ok(n) => {
-            *number = n;
-            0
-        }
-        Err(e) => u8::from(e),
-    }
+    called::put(recording::outcome_at(marks, place), number)
 }
 
 // Leaves the Unix time that the outcome of an accepted minute announces behind `time`. Refuses with Unrepresentable
@@ -27,13 +23,7 @@ pub fn radio_clock_outcome_at(marks: &[u8], place: usize, number: &mut u32) -> u
 pub fn radio_clock_outcome_unix_time(outcome: u32, time: &mut i64) -> u8
     ensures { called result time.new ≡ called_answer time.old (outcome_unix_time outcome) }
 {
-    match dcf77_outcome::outcome_unix_time(outcome) {
-        Ok(z) => {
-            *time = z;
-            0
-        }
-        Err(e) => u8::from(e),
-    }
+    called::put(dcf77_outcome::outcome_unix_time(outcome), time)
 }
 
 // Puts the number of every place into the outcomes. Refuses with LentMemory (20) if there are not as many outcomes
@@ -41,10 +31,7 @@ pub fn radio_clock_outcome_unix_time(outcome: u32, time: &mut i64) -> u8
 pub fn radio_clock_fill_outcomes(marks: &[u8], outcomes: &mut [u32]) -> u8
     ensures { called result outcomes.new ≡ called_memory (fill_outcomes marks.now outcomes.old) }
 {
-    match recording::fill_outcomes(marks, outcomes) {
-        Ok(()) => 0,
-        Err(e) => u8::from(e),
-    }
+    called::status(recording::fill_outcomes(marks, outcomes))
 }
 
 // Puts a new mark at a place, brings the outcomes up to date, and leaves the count of those that differ behind
@@ -60,11 +47,8 @@ pub fn radio_clock_correct_mark(
     ensures { called result (recorded marks.new outcomes.new, changed.new)
         ≡ called_both changed.old (correct_mark marks.old outcomes.old place mark) }
 {
-    match recording::correct_mark(marks, outcomes, place, mark) {
-        Ok(n) => {
-            *changed = n;
-            0
-        }
-        Err(e) => u8::from(e),
-    }
+    called::put(
+        recording::correct_mark(marks, outcomes, place, mark),
+        changed,
+    )
 }

@@ -3,60 +3,44 @@
 
 ghost use Rattle.std.specs.Prelude.{◌≡◌};
 ghost use Rattle.clock_time.specs.Writing.{written};
-ghost use Rattle.time_string.specs.declared.Kind.{Kind};
-ghost use Rattle.c_writer.specs.Writers.{write_time, write_time_from, write_as, write_from, write_minute_from};
+ghost use Rattle.c_writer.specs.Writers.{write_as, write_from, write_minute_from};
 
+use c_fields::FromNumbers;
 use clock_time::{ClockTime, Error};
+use dcf77::MinuteTime;
+use meinberg_gps::GpsTime;
+use time_string::Kind;
 
-// Writes a clock time as a string of kind 0 or 1, or of kind 3 for any other number.
-fn write_time(kind: u8, t: ClockTime, out: &mut [u8]) -> Result<usize, Error>
-    ensures { written result out.new ≡ write_time kind t out.old }
+fn write_as(kind: Kind, fields: &[i32], out: &mut [u8]) -> Result<usize, Error>
+    ensures { written result out.new ≡ write_as kind fields.now out.old }
 {
-    if kind == 0 {
-        return meinberg_standard_writer::write_standard(t, out);
+    match kind {
+        Kind::Standard => {
+            meinberg_standard_writer::write_standard(ClockTime::from_numbers(fields)?, out)
+        }
+        Kind::Pzf => meinberg_pzf_writer::write_pzf(ClockTime::from_numbers(fields)?, out),
+        Kind::Gps => meinberg_gps_writer::write_gps(GpsTime::from_numbers(fields)?, out),
+        Kind::Elv => elv_dcf7000_writer::write_elv(ClockTime::from_numbers(fields)?, out),
     }
-    if kind == 1 {
-        return meinberg_pzf_writer::write_pzf(t, out);
-    }
-    elv_dcf7000_writer::write_elv(t, out)
-}
-
-// The same from the numbers of a clock time.
-fn write_time_from(kind: u8, fields: &[i32], out: &mut [u8]) -> Result<usize, Error>
-    ensures { written result out.new ≡ write_time_from kind fields.now out.old }
-{
-    let t = c_fields::time_of(fields)?;
-    write_time(kind, t, out)
-}
-
-// Writes the numbers of a clock time and position as a GPS string.
-fn write_gps(fields: &[i32], out: &mut [u8]) -> Result<usize, Error>
-    ensures { written result out.new ≡ write_as Kind.Gps fields.now out.old }
-{
-    let g = c_fields::gps_of(fields)?;
-    meinberg_gps_writer::write_gps(g, out)
 }
 
 // Writes the numbers of a reading to the front of `out`, as a string of the kind that `kind` names. Refuses with Length
 // (1) if it names none, with Unrepresentable (23) if no such string is read as the numbers, then with LentMemory (20)
 // if there is no room.
+#[tactic(auto, unfolding(crate::specs::Writers::write_from))]
 pub fn write_string(kind: u8, fields: &[i32], out: &mut [u8]) -> Result<usize, Error>
     ensures { written result out.new ≡ write_from kind fields.now out.old }
 {
-    if 3 < kind {
-        return Err(Error::Length);
-    }
-    if kind == 2 {
-        return write_gps(fields, out);
-    }
-    write_time_from(kind, fields, out)
+    let kind = Kind::try_from(kind)?;
+    write_as(kind, fields, out)
 }
 
 // Writes numbers as a run of marks to the front of `out`. Refuses with Unrepresentable (23) if no run is read as the
 // numbers, then with LentMemory (20) if there is no room.
+#[tactic(auto, unfolding(crate::specs::Writers::write_minute_from))]
 pub fn write_marks(fields: &[i32], out: &mut [u8]) -> Result<usize, Error>
     ensures { written result out.new ≡ write_minute_from fields.now out.old }
 {
-    let a = c_fields::minute_of(fields)?;
+    let a = MinuteTime::from_numbers(fields)?;
     dcf77_writer::write_minute(a, out)
 }

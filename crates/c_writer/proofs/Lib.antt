@@ -1,2 +1,0 @@
--- Laws of writing from numbers.
-pub mod WritersLaws

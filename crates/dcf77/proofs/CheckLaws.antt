@@ -1,7 +1,8 @@
 -- The checks of a minute: that of its length, and the others by parts, as the code goes through them.
 use Prim.Native.Nat.{ℕ, suc, ◌≤◌}
+use native.Mathlib.Decide.{ℕ_discrete}
 use native.Mathlib.Omega.{arith}
-use mathlib.Core.Path.{◌≡◌, refl, sym, ◌∙◌}
+use mathlib.Core.Path.{◌≡◌, refl, sym, ap, ◌∙◌}
 use mathlib.Core.Logic.{◌⊎◌, inl, inr, ⊎_elim}
 use mathlib.Core.Bool.{Bool, true, false, cond, not, ◌&&◌, ◌||◌, and-true}
 use mathlib.Core.List.{List, [], ◌∷◌, ◌++◌}
@@ -9,12 +10,19 @@ use lib.Dec.{leb, ltb, eqb}
 use lib.IntN.{ℤ}
 use lib.ListN.{length}
 use borrow.Author.Tests.{not-false, eqb-true, leb-true, eq-eqb, ne_eqb}
-use Rattle.clock_time.specs.Errors.{Check, refused, checked}
+use Rattle.std.specs.Prelude.{Option, Some, Result, Ok, Err, IfSome}
+use Rattle.std.specs.Result.{IsErrAnd}
+use Rattle.clock_time.specs.declared.Error.{Error}
+use Rattle.clock_time.specs.Reading.{answer_of}
+use Rattle.clock_time.specs.Errors.{error_number, Check, accepted, refused, checked, Passes}
+use Rattle.clock_time.proofs.ErrorLaws.{apart, accepted_passes}
 use Rattle.clock_time.proofs.Tests.{both}
 use Rattle.calendar.specs.TimeOfDay.{time_exists}
 use Rattle.dcf77.specs.Minute.{announced, minute_fields, minute_checks, read_minute}
 use Rattle.dcf77.specs.Marks.{all_sure}
-use Rattle.dcf77.specs.Numbers.{Sure, Numbers, first_number, start_checks, number_checks, date_checks, time_checks}
+use Rattle.dcf77.specs.Numbers.{Numbers, start_checks, number_checks, date_checks, time_checks}
+use Rattle.dcf77.specs.declared.marks.SureRun.{SureRun}
+use Rattle.dcf77.specs.declared.reading.Minute.{Minute}
 use Rattle.dcf77.specs.declared.MinuteTime.{MinuteTime}
 use Rattle.dcf77.proofs.NumberLaws.{group_odd, digits_fit}
 
@@ -29,107 +37,109 @@ pub length_between : (n : ℕ) → not (eqb n 59 || eqb n 60) ≡ false → (59 
 length_between n h =
     ⊎_elim (λ e. (omega arith, omega arith)) (λ e. (omega arith, omega arith)) (two_lengths n (not-false _ h))
 
+pub run_length : (n : ℕ) → 59 ≤ n → n ≤ 60 → (eqb n 59 || eqb n 60) ≡ true
+run_length n h k = elim (ℕ_discrete n 59) [
+  | yes e ↦ simp (eq-eqb n 59 e)
+  | no d ↦ simp (ne_eqb n 59 d, eq-eqb n 60 (omega arith))
+]
+
 -- ---- the checks by parts
--- each number is one of 5 to 19
-abbrev within : List Check → Bool
-within [] = true
-within (k ∷ ks) = leb 5 k.number && leb k.number 19 && within ks
+-- what `?` hands back is the refusal
+pub refused_by : {A : Type 0} (r : Result A Error) (e : Error) → IsErrAnd r (λ d. d ≡ e)
+    → answer_of r ≡ refused (error_number e)
+refused_by (Ok a) e h = absurd h
+refused_by (Err d) e h = ap (λ (x : Error). refused (error_number x)) h
 
-pub first_none : 0 ≡ first_number []
-unfolding first_number
-first_none = refl
-
--- a check that fails is the first, one that passes leaves it to those after it; t is what the code found
-module _ (k : Check) (ks : List Check) {t : Bool} {n : ℕ} (e : t ≡ k.fails) where
-  pub first_here : t ≡ true → n ≡ k.number → n ≡ first_number (k ∷ ks)
-  unfolding first_number
-  first_here h same = rw (sym e ∙ h) same
-
-  pub first_later : t ≡ false → n ≡ first_number ks → n ≡ first_number (k ∷ ks)
-  unfolding first_number
-  first_later h later = rw (sym e ∙ h) later
-
-pub ruleset first = (first_none, first_here, first_later)
-
--- what the answer to a run still depends on: these checks, and the minute if none of them fails
-pub record Remaining (m : List ℕ) (ks : List Check) (a : MinuteTime) : Type 0 where
-  pub says : read_minute m ≡ checked ks a
-
-by_first : (ks more : List Check) (a : MinuteTime) → within ks ≡ true
-    → checked (ks ++ more) a ≡ cond (eqb (first_number ks) 0) (checked more a) (refused (first_number ks))
-unfolding first_number
-by_first [] more a w = refl
-by_first (k ∷ ks) more a w =
-    let last = both (leb 5 k.number && leb k.number 19) (within ks) w in
-    let least = leb-true 5 k.number (both (leb 5 k.number) (leb k.number 19) last.0).0 in
-    go k.fails (ne_eqb k.number 0 (λ z. omega arith)) (by_first ks more a last.1)
+stopped : {A : Type 0} (ks more : List Check) (a : A) (n : ℕ) → refused n ≡ checked {A = Unit {0}} ks tt
+    → refused n ≡ checked (ks ++ more) a
+stopped [] more a n h = apart (sym h)
+stopped (k ∷ ks) more a n h = go k.fails h (stopped ks more a n)
   where
-    go : (t : Bool) → eqb k.number 0 ≡ false
-        → checked (ks ++ more) a ≡ cond (eqb (first_number ks) 0) (checked more a) (refused (first_number ks))
-        → cond t (refused k.number) (checked (ks ++ more) a)
-        ≡ (let e = cond t k.number (first_number ks) in cond (eqb e 0) (checked more a) (refused e))
-    go true named later = rw named
-    go false named later = later
+    go : (t : Bool) → refused n ≡ cond t (refused k.number) (checked {A = Unit {0}} ks tt)
+        → (refused n ≡ checked {A = Unit {0}} ks tt → refused n ≡ checked (ks ++ more) a)
+        → refused n ≡ cond t (refused k.number) (checked (ks ++ more) a)
+    go true e later = cc
+    go false e later = later e
 
--- e is the number of the first of some checks that fails: the code stops there, or these checks have passed
-module _ {m : List ℕ} (ks more : List Check) {a : MinuteTime} (remaining : Remaining m (ks ++ more) a) {e : ℕ}
-    (f : e ≡ first_number ks) (known : within ks ≡ true)
-  where
-    by_number : read_minute m ≡ cond (eqb e 0) (checked more a) (refused e)
-    by_number = rw f (remaining.says ∙ by_first ks more a known)
+passed : {A : Type 0} (ks more : List Check) (a : A) → Passes ks → checked more a ≡ checked (ks ++ more) a
+passed [] more a p = refl
+passed (k ∷ ks) more a p = rw p.0 (passed ks more a p.1)
 
-    pub stops : (e ≡ 0 → ⊥) → read_minute m ≡ refused e
-    stops wrong = rw (ne_eqb e 0 wrong) at by_number
+-- none of some checks fails, or k is the number of the first that does
+abbrev AllPass : List Check → Type 0
+AllPass ks = accepted tt ≡ checked {A = Unit {0}} ks tt
 
-    pub passes : e ≡ 0 → Remaining m more a
-    passes right = record { says = rw (eq-eqb e 0 right) at by_number }
+abbrev Refused : ℕ → List Check → Type 0
+Refused k ks = refused k ≡ checked {A = Unit {0}} ks tt
 
-pub number_known : (ks : List Check) (e : ℕ) → e ≡ first_number ks → (e ≡ 0 → ⊥) → within ks ≡ true
-    → (5 ≤ e) × (e ≤ 19)
-unfolding first_number
-number_known [] e f n w = absurd (n f)
-number_known (k ∷ ks) e f n w =
-    let last = both (leb 5 k.number && leb k.number 19) (within ks) w in
-    let u = both (leb 5 k.number) (leb k.number 19) last.0 in
-    go k.fails f (leb-true _ _ u.0) (leb-true _ _ u.1) (λ g. number_known ks e g n last.1)
-  where
-    go : (t : Bool) → e ≡ cond t k.number (first_number ks) → 5 ≤ k.number → k.number ≤ 19
-        → (e ≡ first_number ks → (5 ≤ e) × (e ≤ 19)) → (5 ≤ e) × (e ≤ 19)
-    go true f l u later = (omega arith, omega arith)
-    go false f l u later = later f
-
--- the checks of the date and of the time, on the fields that were read
-abbrev pub field_checks : List ℕ → MinuteTime → List Check
-field_checks m a =
-    let t = a.time in
-    date_checks t.weekday t.year t.month t.day ++ time_checks m t.hour t.minute
+goes_on : {A : Type 0} (ks more : List Check) (a : A) → AllPass ks → checked more a ≡ checked (ks ++ more) a
+goes_on ks more a h = passed ks more a (accepted_passes ks tt tt (sym h)).0
 
 no_second : (hour minute : ℕ) (offset : ℤ) → time_exists hour minute 0 offset ≡ (ltb hour 24 && ltb minute 60)
 unfolding time_exists
 no_second hour minute offset = and-true (ltb hour 24 && ltb minute 60)
 
--- the checks of a run of 59 or 60 sure marks
-pub run_remaining : {m : List ℕ} {n h d : ℕ} → Numbers m n h d → not (eqb (length m) 59 || eqb (length m) 60) ≡ false
-    → Remaining m ((start_checks m ++ number_checks n h d) ++ field_checks m (minute_fields m)) (minute_fields m)
-unfolding read_minute minute_checks minute_fields announced
-run_remaining {m} {n} {h} {d} k long =
-    record {
-      says =
-          simp (
-            long,
-            k.run.sure,
-            group_odd k.run 8 21 k.minute,
-            group_odd k.run 7 29 k.hour,
-            group_odd k.run 23 36 k.date,
-            digits_fit k,
-            no_second,
-          );
-    }
+-- the checks of the date and of the time that were read
+abbrev pub dated : MinuteTime → List Check
+dated a = date_checks a.time.weekday a.time.year a.time.month a.time.day
 
--- a run of 59 or 60 sure marks
-pub run_sure : {m : List ℕ} {ok : Bool} → not (eqb (length m) 59 || eqb (length m) 60) ≡ false → ok ≡ all_sure m
-    → not ok ≡ false → Sure m
-run_sure long sure passed = record { long = (length_between _ long).0; sure = sym sure ∙ not-false _ passed }
+abbrev pub timed : List ℕ → MinuteTime → List Check
+timed m a = time_checks m a.time.hour a.time.minute
 
-pub above : (k n : ℕ) → (n ≡ k → ⊥) → k ≤ n → suc k ≤ n
-above k n differ least = omega arith
+-- the code goes through the checks of a run of sure marks part by part
+module _ (r : Minute) where
+  abbrev m : List ℕ
+  m = r.run.marks.now
+
+  abbrev numbers : List Check
+  numbers = number_checks r.minute r.hour r.date
+
+  abbrev later : List Check
+  later = let a = minute_fields m in dated a ++ timed m a
+
+  all_left : checked (start_checks m ++ (numbers ++ later)) (minute_fields m) ≡ read_minute m
+  unfolding read_minute minute_checks minute_fields announced
+  all_left =
+      let k = r.numbers in
+      simp (
+        run_length _ k.run.long r.run.is_short,
+        k.run.sure,
+        group_odd k.run 8 21 k.minute,
+        group_odd k.run 7 29 k.hour,
+        group_odd k.run 23 36 k.date,
+        digits_fit k,
+        no_second,
+      )
+
+  pub in_start : (k : ℕ) → Refused k (start_checks m) → refused k ≡ read_minute m
+  in_start k h = stopped (start_checks m) (numbers ++ later) (minute_fields m) k h ∙ all_left
+
+  module _ (s : AllPass (start_checks m)) where
+    numbers_left : checked (numbers ++ later) (minute_fields m) ≡ read_minute m
+    numbers_left = goes_on (start_checks m) (numbers ++ later) (minute_fields m) s ∙ all_left
+
+    pub in_numbers : (k : ℕ) → Refused k numbers → refused k ≡ read_minute m
+    in_numbers k h = stopped numbers later (minute_fields m) k h ∙ numbers_left
+
+    module _ (n : AllPass numbers) (a : MinuteTime) (e : a ≡ minute_fields m) where
+      fields_left : checked (dated a ++ timed m a) a ≡ read_minute m
+      fields_left = rw e (goes_on numbers later (minute_fields m) n ∙ numbers_left)
+
+      pub in_date : (k : ℕ) → Refused k (dated a) → refused k ≡ read_minute m
+      in_date k h = stopped (dated a) (timed m a) a k h ∙ fields_left
+
+      module _ (d : AllPass (dated a)) where
+        time_left : checked (timed m a) a ≡ read_minute m
+        time_left = goes_on (dated a) (timed m a) a d ∙ fields_left
+
+        pub in_time : (k : ℕ) → Refused k (timed m a) → refused k ≡ read_minute m
+        in_time k h = stopped (timed m a) [] a k h ∙ time_left
+
+        pub none_fails : AllPass (timed m a) → accepted a ≡ read_minute m
+        none_fails h = goes_on (timed m a) [] a h ∙ time_left
+
+-- the minute of the run that is made of some marks
+pub marks_of : (m : List ℕ) (r : Minute) {o : Option SureRun} {run : SureRun} → o ≡ Some run
+    → IfSome o (λ x. x.marks.now ≡ m) → r.run ≡ run → read_minute r.run.marks.now ≡ read_minute m
+marks_of m r {o} {run} o_is same run_is =
+    ap read_minute (ap (λ (x : SureRun). x.marks.now) run_is ∙ rw o_is at same)

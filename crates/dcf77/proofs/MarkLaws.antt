@@ -6,7 +6,7 @@ use native.Mathlib.Decide.{dec_lt, ℕ_discrete}
 use native.Mathlib.Numerals.{add-one}
 use native.Mathlib.Omega.{arith}
 use mathlib.Core.Path.{◌≡◌, refl, sym, ap, ◌∙◌}
-use mathlib.Core.Bool.{true, false, ◌&&◌, and_assoc}
+use mathlib.Core.Bool.{Bool, true, false, ◌&&◌, and_assoc}
 use mathlib.Core.List.{List, [], ◌∷◌}
 use lib.Dec.{ltb, leb, eqb, lit<}
 use lib.ListN.{length, get_or, get_or-eq_default}
@@ -14,6 +14,7 @@ use lib.Bits.{bit_and, and_high, and_zero_l}
 use lib.Count.{ones, ones_step}
 use lib.Arith.{digits_div, digits_mod}
 use borrow.Author.Tests.{leb-true, ltb-true, lt-ltb, le-ltb, lt-leb, le-leb, eq-eqb, ne_eqb}
+use Rattle.std.specs.Int.{from_le_bytes, w64}
 use Rattle.bits.proofs.ByteLaws.{zero_block, word}
 use Rattle.clock_time.proofs.Tests.{both}
 use Rattle.clock_time.proofs.ExactLaws.{same_tests}
@@ -62,6 +63,15 @@ module _ (m : List ℕ) (bytes : (i : ℕ) → get_or m i 0 < 256) where
   pub eight_sure_lem : (at n : ℕ) → n ≡ word 8 at m → eqb (bit_and n 18374403900871474942) 0 ≡ sure_from 8 at m
   eight_sure_lem at n e = rw e (sure_word 8 at)
 
+-- eight bytes of a list, the lowest first
+pub word_bytes : (m : List ℕ) (at : ℕ)
+    → from_le_bytes w64
+    (get_or m at 0 ∷ get_or m (at + 1) 0 ∷ get_or m (at + 2) 0 ∷ get_or m (at + 3) 0 ∷ get_or m (at + 4) 0
+    ∷ get_or m (at + 5) 0 ∷ get_or m (at + 6) 0 ∷ get_or m (at + 7) 0 ∷ [])
+    ≡ word 8 at m
+word_bytes m at =
+    rw (add-suc at 6, add-suc at 5, add-suc at 4, add-suc at 3, add-suc at 2, add-suc at 1, add-one at) (omega arith)
+
 -- ---- a run of which all parts are sure
 from_join : (m : List ℕ) (j k at : ℕ) → (sure_from j at m && sure_from k (j + at) m) ≡ sure_from (j + k) at m
 unfolding sure_from
@@ -70,6 +80,14 @@ from_join m (suc j) k at =
     rw (suc-add j at, ← (add-suc j at), suc-add j k)
     (and_assoc (ltb (get_or m at 0) 2) (sure_from j (suc at) m) (sure_from k (j + suc at) m)
     ∙ rw (from_join m j k (suc at)))
+
+-- eight marks more, after those before
+pub eight_more : (m : List ℕ) (i : ℕ) (b : Bool)
+    → ((b && sure_from (8 * i) 0 m) && sure_from 8 (8 * i) m) ≡ (b && sure_from (8 * (i + 1)) 0 m)
+eight_more m i b =
+    let more : 8 * i + 8 ≡ 8 * (i + 1) = omega arith in
+    and_assoc b (sure_from (8 * i) 0 m) (sure_from 8 (8 * i) m)
+    ∙ ap (λ (t : Bool). b && t) (rw (add-zero, more) at (from_join m (8 * i) 8 0))
 
 from_small : (m : List ℕ) (k at : ℕ) → sure_from k at m ≡ true → (i : ℕ) → at ≤ i → i < at + k → get_or m i 0 ≤ 1
 unfolding sure_from
@@ -104,39 +122,26 @@ module _ (at : ℕ) (m : List ℕ) where
       (leb-true (at + 8) (length m) w.0, from_small m 8 at w.1)
 
 module _ (m : List ℕ) (long : 59 ≤ length m) (most : length m ≤ 60) where
-  ends_sure : (sure_from 56 0 m && sure_from 8 (length m - 8) m) ≡ all_sure m
+  pub ends_sure : (sure_from 8 (length m - 8) m && sure_from 56 0 m) ≡ all_sure m
   ends_sure = same_tests _ (all_sure m) (all, ends) (λ h. h, λ h. h)
     where
-      all : (sure_from 56 0 m && sure_from 8 (length m - 8) m) ≡ true → all_sure m ≡ true
+      all : (sure_from 8 (length m - 8) m && sure_from 56 0 m) ≡ true → all_sure m ≡ true
       all h =
-          let w = both (sure_from 56 0 m) (sure_from 8 (length m - 8) m) h in
+          let w = both (sure_from 8 (length m - 8) m) (sure_from 56 0 m) h in
           small_sure m
           (λ k.
           elim (dec_lt k 56) [
-            | yes l ↦ from_small m 56 0 w.0 k (omega arith) (omega arith)
+            | yes l ↦ from_small m 56 0 w.1 k (omega arith) (omega arith)
             | no l ↦ elim (dec_lt k (length m)) [
-              | yes u ↦ from_small m 8 (length m - 8) w.1 k (omega arith) (omega arith)
+              | yes u ↦ from_small m 8 (length m - 8) w.0 k (omega arith) (omega arith)
               | no u ↦ omega (arith, get_or-eq_default m 0 {n = k} (omega arith))
             ]
           ])
 
-      ends : all_sure m ≡ true → (sure_from 56 0 m && sure_from 8 (length m - 8) m) ≡ true
+      ends : all_sure m ≡ true → (sure_from 8 (length m - 8) m && sure_from 56 0 m) ≡ true
       ends h =
           let small = small_from m (sure_small m h) in
-          simp (small 56 0, small 8 (length m - 8))
-
-  pub words_sure : (sure_from 8 0 m && sure_from 8 8 m && sure_from 8 16 m && sure_from 8 24 m && sure_from 8 32 m
-      && sure_from 8 40 m && sure_from 8 48 m && sure_from 8 (length m - 8) m) ≡ all_sure m
-  words_sure =
-      rw (
-        from_join m 8 8 0,
-        from_join m 16 8 0,
-        from_join m 24 8 0,
-        from_join m 32 8 0,
-        from_join m 40 8 0,
-        from_join m 48 8 0,
-      )
-      ends_sure
+          simp (small 8 (length m - 8), small 56 0)
 
 -- ---- numbers of marks
 -- a number of marks is that of the first ones and that of the rest

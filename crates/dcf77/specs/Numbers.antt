@@ -21,11 +21,6 @@ pub record Numbers (m : List ℕ) (n h d : ℕ) : Type 0 where
 abbrev pub four_bytes : ℕ → List ℕ → ℕ
 four_bytes at m = get_or m at 0 + 256 * (get_or m (at + 1) 0 + 256 * (get_or m (at + 2) 0 + 256 * get_or m (at + 3) 0))
 
--- the number of the first check that fails, 0 if none does
-unfoldable pub first_number : List Check → ℕ
-first_number [] = 0
-first_number (k ∷ ks) = cond k.fails k.number (first_number ks)
-
 -- the checks after those of the length and of sure marks, on what the code has in hand
 abbrev pub start_checks : List ℕ → List Check
 start_checks m = given 13 (not (short 0 m && long 20 m)) ∷ given 14 (eqb (get_or m 17 0) (get_or m 18 0)) ∷ []

@@ -6,6 +6,8 @@ ghost use Rattle.clock_time.specs.Reading.{answer_of};
 ghost use Rattle.dcf77.specs.Minute.{read_minute};
 
 use clock_time::{ClockTime, Error, MinuteDetail};
+use marks::SureRun;
+use reading::Minute;
 
 pub mod marks;
 mod reading;
@@ -26,25 +28,12 @@ pub fn read_minute(m: &[u8]) -> Result<MinuteTime, Error>
     if !((m.len() == 59) | (m.len() == 60)) {
         return Err(Error::RunLength);
     }
-    if !marks::all_sure(m) {
-        return Err(Error::UnsureMark);
-    }
-    let minute = marks::read_eight(m, 21);
-    let hour = marks::read_hour(m);
-    let date = marks::read_date(m);
-    let in_marks = reading::marks_error(m, minute, hour, date);
-    if in_marks != 0 {
-        return Err(reading::error_of(in_marks));
-    }
-    let a = reading::fields(m, minute, hour, date);
-    let t = a.time;
-    let in_date = reading::date_error(t);
-    if in_date != 0 {
-        return Err(reading::error_of(in_date));
-    }
-    let in_time = reading::time_error(m, t.hour, t.minute);
-    if in_time != 0 {
-        return Err(reading::error_of(in_time));
-    }
+    let run = SureRun::new(m).ok_or(Error::UnsureMark)?;
+    let minute = Minute::new(run);
+    minute.check_start()?;
+    minute.check_numbers()?;
+    let a = minute.fields();
+    reading::check_date(a.time)?;
+    minute.check_time(a.time)?;
     Ok(a)
 }

@@ -1,15 +1,32 @@
 // Marks as numbers.
-ghost use Rattle.std.specs.Prelude.{◌≡◌, true, not, ◌+◌, ◌*◌, ◌%◌, ◌≤◌, ◌<◌, eqb, length};
+ghost use Rattle.std.specs.Prelude.{◌≡◌, not, ◌+◌, ◌%◌, ◌≤◌, ◌<◌, eqb, length, is_some, IfSome};
 ghost use Rattle.std.specs.Int.Count.{ones};
 ghost use Rattle.dcf77.specs.Marks.{all_sure, sure_from, eight_sure, binary};
 ghost use Rattle.dcf77.specs.Numbers.{Sure, four_bytes};
+
+// A short mark, a long one, and a second without one. Every other number is a mark that is unsure.
+pub const SHORT: u8 = 0;
+
+pub const LONG: u8 = 1;
+
+pub const GAP: u8 = 2;
+
+// The first of the marks of a minute, of an hour and of a date, each with its parity.
+const MINUTE: usize = 21;
+
+const HOUR: usize = 29;
+
+const DATE: usize = 36;
+
+// The bits that none of eight short or long marks has.
+const UNSURE_BITS: u64 = 0xfefe_fefe_fefe_fefe;
 
 // Whether eight marks are short or long: no bit but the lowest is set in any of the bytes.
 fn eight_sure(m: &[u8], at: usize) -> bool
     requires { at + 8 ≤ length m.now }
     ensures { result ≡ sure_from 8 at m.now }
 {
-    let bytes = bits::join_eight(
+    let bytes = u64::from_le_bytes([
         m[at],
         m[at + 1],
         m[at + 2],
@@ -18,8 +35,8 @@ fn eight_sure(m: &[u8], at: usize) -> bool
         m[at + 5],
         m[at + 6],
         m[at + 7],
-    );
-    bytes & 18374403900871474942 == 0
+    ]);
+    bytes & UNSURE_BITS == 0
 }
 
 // Whether eight marks from a place on are there, and all of them are short or long.
@@ -36,67 +53,86 @@ pub fn are_eight_sure(m: &[u8], at: usize) -> bool
 }
 
 // Whether every mark of a run is short or long. The last eight are taken from the end, so that some are read twice.
-pub(crate) fn all_sure(m: &[u8]) -> bool
+fn all_sure(m: &[u8]) -> bool
     requires { (59 ≤ length m.now) × (length m.now ≤ 60) }
     ensures { result ≡ all_sure m.now }
 {
-    let a = eight_sure(m, 0);
-    let b = eight_sure(m, 8);
-    let c = eight_sure(m, 16);
-    let d = eight_sure(m, 24);
-    let e = eight_sure(m, 32);
-    let f = eight_sure(m, 40);
-    let g = eight_sure(m, 48);
-    let h = eight_sure(m, m.len() - 8);
-    a & b & c & d & e & f & g & h
+    let mut sure = eight_sure(m, m.len() - 8);
+    for i in 0..7 {
+        sure &= eight_sure(m, 8 * i);
+    }
+    sure
 }
 
-// Four bytes side by side as one number.
-fn join_four(a: u8, b: u8, c: u8, d: u8) -> u64
-    ensures { (result < 4294967296) × (result ≡ a + 256 * (b + 256 * (c + 256 * d))) }
-{
-    a as u64 + 256 * (b as u64 + 256 * (c as u64 + 256 * (d as u64)))
-}
-
-// The four bytes from a place on. A function of its own, in which the compiler makes a single load of them.
+// The four bytes from a place on as one number. A function of its own, in which the compiler makes a single load of
+// them.
 fn four_at(m: &[u8], at: usize) -> u64
     requires { at + 4 ≤ length m.now }
     ensures { (result < 4294967296) × (result ≡ four_bytes at m.now) }
 {
-    join_four(m[at], m[at + 1], m[at + 2], m[at + 3])
+    u64::from(u32::from_le_bytes([m[at], m[at + 1], m[at + 2], m[at + 3]]))
 }
 
-// The number that eight marks stand for. The product has the bits of the sum side by side, as its bits 24 to 31.
-pub(crate) fn read_eight(m: &[u8], at: usize) -> u32
-    requires { (at + 8 ≤ length m.now) × (all_sure m.now ≡ true) }
-    ensures { result ≡ binary 8 at m.now }
-{
-    let low = four_at(m, at);
-    let high = four_at(m, at + 4);
-    ((low + 16 * high) * 16909320 / 16777216 % 256) as u32
+// A run of 59 or 60 marks, each of which is short or long.
+#[derive(Clone, Copy)]
+pub(crate) struct SureRun<'a> {
+    pub(crate) marks: &'a [u8],
+    ghost is_sure: { Sure marks.now },
+    ghost is_short: { length marks.now ≤ 60 },
 }
 
-// The number that the marks 29 to 35 stand for.
-pub(crate) fn read_hour(m: &[u8]) -> u32
-    requires { Sure m.now }
-    ensures { result ≡ binary 7 29 m.now }
-{
-    read_eight(m, 29) % 128
-}
+impl<'a> SureRun<'a> {
+    // The run of the marks, if each is short or long.
+    pub(crate) fn new(m: &'a [u8]) -> Option<SureRun<'a>>
+        requires { (59 ≤ length m.now) × (length m.now ≤ 60) }
+        ensures known { is_some result ≡ all_sure m.now }
+        ensures same { IfSome result (λ r. r.marks.now ≡ m.now) }
+    {
+        if all_sure(m) {
+            Some(SureRun { marks: m })
+        } else {
+            None
+        }
+    }
 
-// The number that the marks 36 to 58 stand for. A run may end there, so the last seven are read from mark 51 on.
-pub(crate) fn read_date(m: &[u8]) -> u32
-    requires { Sure m.now }
-    ensures { result ≡ binary 23 36 m.now }
-{
-    let low = read_eight(m, 36);
-    let middle = read_eight(m, 44);
-    low + 256 * (middle + 256 * (read_eight(m, 51) / 2))
+    // The number that eight marks stand for. The product has the bits of the sum side by side, as its bits 24 to 31.
+    pub(crate) fn eight(&self, at: usize) -> u32
+        requires { at + 8 ≤ length self.now.marks.now }
+        ensures { result ≡ binary 8 at self.now.marks.now }
+    {
+        let m = self.marks;
+        let low = four_at(m, at);
+        let high = four_at(m, at + 4);
+        ((low + 16 * high) * 0x0102_0408 / 0x0100_0000 % 256) as u32
+    }
+
+    // The number that the marks 21 to 28 stand for.
+    pub(crate) fn minute(&self) -> u32
+        ensures { result ≡ binary 8 21 self.now.marks.now }
+    {
+        self.eight(MINUTE)
+    }
+
+    // The number that the marks 29 to 35 stand for.
+    pub(crate) fn hour(&self) -> u32
+        ensures { result ≡ binary 7 29 self.now.marks.now }
+    {
+        self.eight(HOUR) % 128
+    }
+
+    // The number that the marks 36 to 58 stand for. A run may end there, so the last seven are read from mark 51 on.
+    pub(crate) fn date(&self) -> u32
+        ensures { result ≡ binary 23 36 self.now.marks.now }
+    {
+        let low = self.eight(DATE);
+        let middle = self.eight(DATE + 8);
+        low + 256 * (middle + 256 * (self.eight(DATE + 15) / 2))
+    }
 }
 
 // Whether an odd number of bits is set.
 pub(crate) fn is_odd(n: u32) -> bool
     ensures { result ≡ not (eqb (ones n % 2) 0) }
 {
-    bits::parity(n as u64) != 0
+    n.count_ones() % 2 != 0
 }

@@ -1,4 +1,5 @@
 -- Laws of the definitions.
+pub mod MapLaws
 pub mod ByteLaws
 pub mod WordLaws
 pub mod TestLaws

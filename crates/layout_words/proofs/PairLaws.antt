@@ -1,12 +1,14 @@
 -- Three or four pairs of digits at once: the code's sums on a word are the numbers of its pairs.
 use Rattle.std.proofs.Common.{◌≡◌, ℕ, zero, suc, ◌+◌, ◌*◌, ◌/◌, ◌%◌, ◌^◌, ◌<◌, ◌≤◌, true, T, eqb, ltb, List, [], ◌∷◌, length, get_or, refl, ◌∙◌, add-zero, arith, lit<, ltb→lt, eqb-true}
 use lib.Bits.{bit_and, and_block, and_le_r, and_mask, and_zero_l}
+use native.Mathlib.Nat.{pow-succ', div-div-eq-div-mul}
+use Rattle.std.specs.Int.{bytes_low_first}
 use Rattle.clock_time.proofs.Tests.{both}
 use Rattle.clock_time.specs.Lists.{slice}
 use Rattle.decimal.specs.Decimal.{value_from}
 use Rattle.decimal.proofs.DecimalLaws.{digit_range}
 use Rattle.layout.specs.Layout.{digit, places, FitsLayout, number}
-use Rattle.layout_words.specs.Words.{word, enough, low_pair, three_numbers, numbers_at, four_numbers}
+use Rattle.layout_words.specs.Words.{word, enough, low_pair, seven_pairs, three_numbers, numbers_at, four_numbers}
 use Rattle.layout_words.specs.Words.{four_numbers_at}
 use Rattle.layout.proofs.LayoutLaws.{all_digits, place_within, digit_place_lem}
 use Rattle.layout_words.proofs.WordLaws.{Bytes, bytes_enough, enough_bytes}
@@ -49,6 +51,10 @@ abbrev moved_by : ℕ → ℕ → ℕ
 moved_by zero w = w
 moved_by (suc k) w = moved_by k (w / 256)
 
+moved_power : (k w : ℕ) → moved_by k w ≡ w / 256 ^ k
+moved_power zero w = omega arith
+moved_power (suc k) w = moved_power k (w / 256) ∙ rw (pow-succ', div-div-eq-div-mul)
+
 -- byte k of that sum is the number of the pair from place k on
 half_pair : (k n i at : ℕ) (s : List ℕ) → k < n → i ≡ at + k
     → moved_by k (10 * word (halves (suc n) at s) + word (halves n (suc at) s)) % 256 ≡ low_pair i s
@@ -73,10 +79,11 @@ module _ (w : ℕ) {m : ℕ} (mask : m ≡ word (places 8 15)) where
 
   module _ (at : ℕ) (s : List ℕ) (e : w ≡ word (slice at 8 (enough at s))) (h : Bytes s) where
     -- byte k is the number of the pair from place k on
-    pair_byte : (k : ℕ) → T (ltb k 7) → moved_by k sums % 256 ≡ low_pair (at + k) (enough at s)
+    pair_byte : (k : ℕ) → T (ltb k 7) → sums / 256 ^ k % 256 ≡ low_pair (at + k) (enough at s)
     pair_byte k few =
         let t = enough at s in
         rw (
+          ← (moved_power k sums),
           e,
           mask,
           word_halves 8 at t (bytes_enough at s h),
@@ -86,23 +93,22 @@ module _ (w : ℕ) {m : ℕ} (mask : m ≡ word (places 8 15)) where
 
     -- byte 0 is that of the first
     first_pair : sums % 256 ≡ low_pair at (enough at s)
-    first_pair = rw add-zero at (pair_byte 0 tt)
+    first_pair =
+        let one : sums / 1 ≡ sums = omega arith in
+        rw (add-zero, one) at (pair_byte 0 tt)
 
-    -- three pairs, with one byte between two
-    pub three_sums : record { first = sums % 256; second = moved_by 3 sums % 256; third = moved_by 6 sums % 256 }
-        ≡ numbers_at at s
-    unfolding numbers_at three_numbers
-    three_sums = rw (first_pair, pair_byte 3 tt, pair_byte 6 tt)
-
-    -- four pairs, one after another
-    pub four_sums : record {
-      first = sums % 256;
-      second = moved_by 2 sums % 256;
-      third = moved_by 4 sums % 256;
-      fourth = moved_by 6 sums % 256;
-    } ≡ four_numbers_at at s
-    unfolding four_numbers_at four_numbers
-    four_sums = rw (first_pair, pair_byte 2 tt, pair_byte 4 tt, pair_byte 6 tt)
+    -- so the seven lowest are the numbers of seven pairs
+    pub seven_sums : bytes_low_first 0 7 sums ≡ seven_pairs at (enough at s)
+    seven_sums =
+        rw (
+          first_pair,
+          pair_byte 1 tt,
+          pair_byte 2 tt,
+          pair_byte 3 tt,
+          pair_byte 4 tt,
+          pair_byte 5 tt,
+          pair_byte 6 tt,
+        )
 
 -- ---- digits
 module _ {l s : List ℕ} (h : FitsLayout l s) where
@@ -137,26 +143,21 @@ module _ {l s : List ℕ} (h : FitsLayout l s) where
   pub numbers_two : (at : ℕ) → at + 8 ≤ length l → all_digits (slice at 2 l) ≡ true
       → all_digits (slice (at + 3) 2 l) ≡ true
       → numbers_at at s
-      ≡ record { first = number 2 at s; second = number 2 (at + 3) s; third = low_pair (at + 6) s }
+      ≡ number 2 at s ∷ number 2 (at + 3) s ∷ low_pair (at + 6) s ∷ []
   unfolding numbers_at three_numbers
   numbers_two at room a b = rw (all_places at room, low_pair_lem at a, low_pair_lem (at + 3) b)
 
   pub numbers_fit : (at : ℕ) → all_digits (slice at 2 l) ≡ true → all_digits (slice (at + 3) 2 l) ≡ true
       → all_digits (slice (at + 6) 2 l) ≡ true
       → numbers_at at s
-      ≡ record { first = number 2 at s; second = number 2 (at + 3) s; third = number 2 (at + 6) s }
+      ≡ number 2 at s ∷ number 2 (at + 3) s ∷ number 2 (at + 6) s ∷ []
   numbers_fit at a b c = numbers_two at (eight_places at c) a b ∙ rw (low_pair_lem (at + 6) c)
 
   -- four pairs of digits
   pub numbers_four : (at : ℕ) → all_digits (slice at 2 l) ≡ true → all_digits (slice (at + 2) 2 l) ≡ true
       → all_digits (slice (at + 4) 2 l) ≡ true → all_digits (slice (at + 6) 2 l) ≡ true
       → four_numbers_at at s
-      ≡ record {
-        first = number 2 at s;
-        second = number 2 (at + 2) s;
-        third = number 2 (at + 4) s;
-        fourth = number 2 (at + 6) s;
-      }
+      ≡ number 2 at s ∷ number 2 (at + 2) s ∷ number 2 (at + 4) s ∷ number 2 (at + 6) s ∷ []
   unfolding four_numbers_at four_numbers
   numbers_four at a b c d =
       let eight = all_places at (eight_places at d) in

@@ -2,8 +2,6 @@
 use Rattle.std.specs.Prelude.{ℕ, zero, suc, ◌+◌, ◌*◌, ◌/◌, ◌%◌, Bool, true, cond, List, [], ◌∷◌, length, ◌==◌, nat_le, slice_index}
 use Prim.Native.Char.{code}
 use Rattle.layout.specs.Layout.{sample_place, flag_of, fits_from}
-use Rattle.layout_words.specs.declared.ThreeNumbers.{ThreeNumbers}
-use Rattle.layout_words.specs.declared.FourNumbers.{FourNumbers}
 
 -- the number whose digits to the base 256 are these bytes, the lowest first
 unfoldable pub word : List ℕ → ℕ
@@ -52,24 +50,24 @@ nonzero_bytes (suc n) w = nonzero_bytes n (w / 256) * 256 + cond (w % 256 == 0) 
 unfoldable pub low_pair : ℕ → List ℕ → ℕ
 low_pair at s = 10 * (slice_index s at % 16) + slice_index s (suc at) % 16
 
+-- the numbers of seven pairs, each a place after the one before it
+abbrev pub seven_pairs : ℕ → List ℕ → List ℕ
+seven_pairs at s =
+    low_pair at s ∷ low_pair (at + 1) s ∷ low_pair (at + 2) s ∷ low_pair (at + 3) s ∷ low_pair (at + 4) s
+    ∷ low_pair (at + 5) s ∷ low_pair (at + 6) s ∷ []
+
 -- the numbers of three pairs of digits, with one byte between two pairs
-unfoldable pub three_numbers : ℕ → List ℕ → ThreeNumbers
-three_numbers at s = record { first = low_pair at s; second = low_pair (at + 3) s; third = low_pair (at + 6) s }
+unfoldable pub three_numbers : ℕ → List ℕ → List ℕ
+three_numbers at s = low_pair at s ∷ low_pair (at + 3) s ∷ low_pair (at + 6) s ∷ []
 
 -- the same from a place on, 0 if there are no eight bytes
-unfoldable pub numbers_at : ℕ → List ℕ → ThreeNumbers
+unfoldable pub numbers_at : ℕ → List ℕ → List ℕ
 numbers_at at s = three_numbers at (enough at s)
 
 -- the numbers of four pairs of digits, one after another
-unfoldable pub four_numbers : ℕ → List ℕ → FourNumbers
-four_numbers at s =
-    record {
-      first = low_pair at s;
-      second = low_pair (at + 2) s;
-      third = low_pair (at + 4) s;
-      fourth = low_pair (at + 6) s;
-    }
+unfoldable pub four_numbers : ℕ → List ℕ → List ℕ
+four_numbers at s = low_pair at s ∷ low_pair (at + 2) s ∷ low_pair (at + 4) s ∷ low_pair (at + 6) s ∷ []
 
 -- the same from a place on, 0 if there are no eight bytes
-unfoldable pub four_numbers_at : ℕ → List ℕ → FourNumbers
+unfoldable pub four_numbers_at : ℕ → List ℕ → List ℕ
 four_numbers_at at s = four_numbers at (enough at s)

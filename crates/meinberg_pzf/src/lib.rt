@@ -51,18 +51,18 @@ fn fields(s: &[u8; 32]) -> ClockTime
     requires { FitsLayout pzf_layout s.now }
     ensures { result ≡ pzf_fields s.now }
 {
-    let date = layout_words::numbers_at(s, 1);
-    let time = layout_words::numbers_at(s, 14);
+    let [day, month, year] = layout_words::numbers_at(s, 1);
+    let [hour, minute, second] = layout_words::numbers_at(s, 14);
     let utc = s[24] == b'U';
     let summer = s[27] == b'S';
     ClockTime {
-        year: gregorian::full_year(FIRST_YEAR, date.third),
-        month: date.second,
-        day: date.first,
+        year: gregorian::full_year(FIRST_YEAR, year),
+        month,
+        day,
         weekday: s[11] % 16,
-        hour: time.first,
-        minute: time.second,
-        second: time.third,
+        hour,
+        minute,
+        second,
         utc_offset: offset_of(utc, summer),
         unsynchronised: s[25] == b'#',
         unverified: s[26] == b'*',

@@ -58,18 +58,18 @@ fn fields(s: &[u8; 32]) -> ClockTime
     requires { FitsLayout standard_layout s.now }
     ensures { result ≡ standard_fields s.now }
 {
-    let date = layout_words::numbers_at(s, 3);
-    let time = layout_words::numbers_at(s, 18);
+    let [day, month, year] = layout_words::numbers_at(s, 3);
+    let [hour, minute, second] = layout_words::numbers_at(s, 18);
     let zone = s[29];
     let announced = s[30];
     ClockTime {
-        year: gregorian::full_year(FIRST_YEAR, date.third),
-        month: date.second,
-        day: date.first,
+        year: gregorian::full_year(FIRST_YEAR, year),
+        month,
+        day,
         weekday: s[14] % 16,
-        hour: time.first,
-        minute: time.second,
-        second: time.third,
+        hour,
+        minute,
+        second,
         utc_offset: zone_offset(zone),
         unsynchronised: s[27] == b'#',
         unverified: s[28] == b'*',

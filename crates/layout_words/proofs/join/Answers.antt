@@ -1,7 +1,8 @@
-use Rattle.std.proofs.Common.{arith}
+use Rattle.std.proofs.Common.{ap, arith}
+use Rattle.clock_time.proofs.ListsLaws.{slice_known}
 use Rattle.layout_words.specs.Words.{word}
 use Rattle.layout_words.proofs.join.Goals as goal
 
 pub returns : goal.returns
 unfolding word
-returns c = omega (arith, c.join_eight.ensures)
+returns c = omega (arith, ap word (slice_known 8 c.args.bytes (omega arith)), c.from_le_bytes.ensures)

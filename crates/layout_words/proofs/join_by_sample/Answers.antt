@@ -1,16 +1,14 @@
-use Rattle.std.proofs.Common.{◌∙◌}
+use Rattle.std.proofs.Common.{ap, arith, ◌∙◌, rules}
+use Rattle.clock_time.proofs.ListsLaws.{slice_known}
+use Rattle.layout_words.specs.Words.{word, by_sample}
+use Rattle.layout_words.proofs.MapLaws.{maps_each}
 use Rattle.layout_words.proofs.join_by_sample.Goals as goal
 
 pub returns : goal.returns
 returns c =
+    let sample = c.args.sample in
+    let mapped = c.map.result in
+    let each = maps_each _ (by_sample c.args.digit c.args.any c.args.fixed) _ (λ x y q h. search rules) sample mapped 0 8
+    c.map.ensures.items.each in
     c.join.ensures
-    ∙ simp (
-      c.by_sample-8.ensures,
-      c.by_sample-7.ensures,
-      c.by_sample-6.ensures,
-      c.by_sample-5.ensures,
-      c.by_sample-4.ensures,
-      c.by_sample-3.ensures,
-      c.by_sample-2.ensures,
-      c.by_sample.ensures,
-    )
+    ∙ ap word (slice_known 8 mapped (omega arith) ∙ rw (slice_known 8 sample (omega arith)) each)

@@ -1,0 +1,16 @@
+use Rattle.std.proofs.Common.{arith, rules}
+use Rattle.clock_time.specs.Lists.{slice}
+use Rattle.clock_time.proofs.ListsLaws.{slice_known}
+use Rattle.layout_words.specs.Words.{enough, flags_fit}
+use Rattle.layout_words.proofs.WordLaws.{bytes_of, bytes_enough, each_byte}
+use Rattle.layout_words.proofs.FlagLaws.{flag_word}
+use Rattle.layout_words.proofs.flags_fit.Goals as goal
+
+pub returns : goal.returns
+unfolding flags_fit
+returns c =
+    let letters = slice 0 7 c.args.letters in
+    rw (slice_known 7 c.args.letters (omega arith))
+    (cc (flag_word letters (enough c.args.at c.args.s.now) c.args.last c.args.at (bytes_of letters (each_byte 7 0 c.args.letters (λ i. search rules)))
+    (omega arith)
+    (bytes_enough c.args.at c.args.s.now (λ i. omega (arith, c.type_inv.s i)))))

@@ -30,16 +30,16 @@ impl<'a> Fitting<'a> {
         ensures { result ≡ sent_fields self.entry.s.now }
     {
         let s = self.s;
-        let time = layout_words::four_numbers_at(s, 4);
-        let date = layout_words::four_numbers_at(s, 13);
+        let [hour, minute, second, _] = layout_words::four_numbers_at(s, 4);
+        let [day, month, century, year] = layout_words::four_numbers_at(s, 13);
         ClockTime {
-            year: 100 * (date.third as u16) + date.fourth as u16,
-            month: date.second,
-            day: date.first,
+            year: 100 * (century as u16) + year as u16,
+            month,
+            day,
             weekday: 0,
-            hour: time.first,
-            minute: time.second,
-            second: time.third,
+            hour,
+            minute,
+            second,
             utc_offset: 0,
             unsynchronised: false,
             unverified: false,
@@ -55,8 +55,8 @@ impl<'a> Fitting<'a> {
         ensures { result ≡ milliseconds_of self.entry.s.now }
     {
         let s = self.s;
-        let time = layout_words::four_numbers_at(s, 4);
-        10 * (time.fourth as u16) + (s[12] % 16) as u16
+        let [_, _, _, hundredths] = layout_words::four_numbers_at(s, 4);
+        10 * (hundredths as u16) + (s[12] % 16) as u16
     }
 
     // Reads the clock time of a string whose sum and validity hold. Refuses with NoSuchDate (5) if the date is not one

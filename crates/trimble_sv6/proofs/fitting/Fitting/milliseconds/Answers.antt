@@ -9,5 +9,5 @@ pub returns : goal.returns
 unfolding milliseconds_of trimble_layout ascii
 returns c =
     let f = c.args.self.fits in
-    rw (c.four_numbers_at-time.ensures, numbers_four f 4 refl refl refl refl, low_digit f 12 refl)
+    rw (c.four_numbers_at.ensures, numbers_four f 4 refl refl refl refl, low_digit f 12 refl)
     (three_number c.args.self.s.now 10)

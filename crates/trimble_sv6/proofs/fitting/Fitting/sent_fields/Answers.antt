@@ -8,8 +8,8 @@ pub returns : goal.returns
 unfolding sent_fields trimble_layout ascii
 returns c =
     simp (
-      c.four_numbers_at-date.ensures,
-      c.four_numbers_at-time.ensures,
+      c.four_numbers_at-2.ensures,
+      c.four_numbers_at.ensures,
       numbers_four c.args.self.fits,
       four_number c.args.self.s.now 17,
     )

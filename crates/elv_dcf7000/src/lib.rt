@@ -50,18 +50,18 @@ fn sent_fields(s: &[u8; 21]) -> ClockTime
     requires { FitsLayout elv_layout s.now × (elv_flag_fault s.now ≡ false) }
     ensures { result ≡ sent_fields s.now }
 {
-    let date = layout_words::numbers_at(s, 0);
-    let time = layout_words::numbers_at(s, 9);
+    let [year, month, day] = layout_words::numbers_at(s, 0);
+    let [hour, minute, second] = layout_words::numbers_at(s, 9);
     let flags = s[19] % 16;
     let summer = flags % 2 == 1;
     ClockTime {
-        year: gregorian::full_year(FIRST_YEAR, date.first),
-        month: date.second,
-        day: date.third,
+        year: gregorian::full_year(FIRST_YEAR, year),
+        month,
+        day,
         weekday: 0,
-        hour: time.first,
-        minute: time.second,
-        second: time.third,
+        hour,
+        minute,
+        second,
         utc_offset: clock_time::cet_offset(summer),
         unsynchronised: flags / 4 % 2 == 1,
         unverified: false,

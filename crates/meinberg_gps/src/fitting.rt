@@ -20,8 +20,8 @@ impl<'a> Fitting<'a> {
         ensures { result ≡ offset_magnitude self.entry.s.now }
     {
         let s = self.s;
-        let numbers = layout_words::numbers_at(s, 25);
-        60 * (numbers.first as u32) + numbers.second as u32
+        let [hours, minutes, _] = layout_words::numbers_at(s, 25);
+        60 * (hours as u32) + minutes as u32
     }
 
     // Whether the offset breaks a rule.
@@ -29,8 +29,8 @@ impl<'a> Fitting<'a> {
         ensures { result ≡ offset_fault self.entry.s.now }
     {
         let s = self.s;
-        let numbers = layout_words::numbers_at(s, 25);
-        !((numbers.second <= 59)
+        let [_, minutes, _] = layout_words::numbers_at(s, 25);
+        !((minutes <= 59)
             & signed::sign_holds(b'+', b'-', 60 * 14, s[24], self.offset_magnitude()))
     }
 
@@ -45,16 +45,16 @@ impl<'a> Fitting<'a> {
         ensures { result ≡ clock_of self.entry.s.now }
     {
         let s = self.s;
-        let date = layout_words::numbers_at(s, 1);
-        let time = layout_words::numbers_at(s, 14);
+        let [day, month, year] = layout_words::numbers_at(s, 1);
+        let [hour, minute, second] = layout_words::numbers_at(s, 14);
         ClockTime {
-            year: gregorian::full_year(FIRST_YEAR, date.third),
-            month: date.second,
-            day: date.first,
+            year: gregorian::full_year(FIRST_YEAR, year),
+            month,
+            day,
             weekday: s[11] % 16,
-            hour: time.first,
-            minute: time.second,
-            second: time.third,
+            hour,
+            minute,
+            second,
             utc_offset: self.offset(),
             unsynchronised: s[32] == b'#',
             unverified: s[33] == b'*',
@@ -70,8 +70,8 @@ impl<'a> Fitting<'a> {
         ensures { result ≡ leap_mismatch self.entry.s.now }
     {
         let s = self.s;
-        let time = layout_words::numbers_at(s, 14);
-        (s[38] == b'L') != (time.third == 60)
+        let [_, _, second] = layout_words::numbers_at(s, 14);
+        (s[38] == b'L') != (second == 60)
     }
 
     // Reads the clock time of a string whose offset and `position` hold. Refuses with the first that holds of

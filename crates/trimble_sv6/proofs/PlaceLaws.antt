@@ -1,6 +1,6 @@
 -- Laws of the places 24 to 31: two digits, any byte and five printable bytes, tested as one word.
-use Rattle.std.proofs.Common.{◌≡◌, ℕ, ◌+◌, ◌*◌, ◌^◌, ◌<◌, Bool, true, false, ◌&&◌, T, eqb, List, [], ◌∷◌, map, get_or, sym, refl, ap, ◌∙◌, ap₂, lit<}
-use mathlib.Core.Bool.{beq, and-true}
+use Rattle.std.proofs.Common.{◌≡◌, ℕ, ◌+◌, ◌*◌, ◌^◌, ◌<◌, Bool, true, false, ◌&&◌, T, List, [], ◌∷◌, map, sym, refl, ap, ◌∙◌, ap₂}
+use mathlib.Core.Bool.{beq}
 use lib.Bits.{bit_xor, xor_zero_r}
 use Rattle.clock_time.specs.Lists.{slice}
 use Rattle.clock_time.proofs.Tests.{below}
@@ -10,8 +10,6 @@ use Rattle.layout_words.specs.Words.{word}
 use Rattle.layout_words.proofs.WordLaws.{Bytes}
 use Rattle.layout_words.proofs.ByteLaws.{clear, same_test}
 use Rattle.layout_words.proofs.TestLaws.{ByteTest, computed, passes, passes_all, passes_all_lem, word_fits}
-use Rattle.trimble_sv6.specs.Sum.{byte_pair}
-use Rattle.trimble_sv6.proofs.SumLaws.{pair_test}
 
 -- ---- what may stand at a place
 -- two tests of a byte that are together the layout's own
@@ -85,14 +83,3 @@ tail_test s hs =
     ap (λ (x : ℕ). passes_all (lows tail) w && clear (2 ^ 64) 72340172838010880 9259542123265425536 x)
     (sym (xor_zero_r w))
     ∙ word_fits (λ p. p.place) passes_both refl passes_both_lem tail s 24 hs
-
--- ---- the places 32 to 36
--- the code's test of two numbers is the layout's of these places
-pub end_test : (s : List ℕ) → Bytes s → (eqb (byte_pair 32 s) 10811 && eqb (get_or s 36 0) 60)
-    ≡ fits_from true 32 (59 ∷ 42 ∷ free ∷ free ∷ 60 ∷ []) s
-unfolding byte_pair fits_from allowed
-end_test s h =
-    let both = eqb (get_or s 32 0) 59 && eqb (get_or s 33 0) 42 in
-    ap (λ (t : Bool). t && eqb (get_or s 36 0) 60)
-    (pair_test (get_or s 32 0) (get_or s 33 0) 59 42 (h 32) (h 33) (lit< tt) (lit< tt)
-    ∙ sym (and-true (both && true) ∙ and-true both))

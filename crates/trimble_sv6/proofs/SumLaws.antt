@@ -1,16 +1,14 @@
 -- Laws of the sum: the code's way to it, eight bytes at once, and that it is the one in words.
-use Rattle.std.proofs.Common.{◌≡◌, ℕ, zero, suc, ◌+◌, ◌-◌, ◌*◌, ◌/◌, ◌%◌, ◌^◌, ◌<◌, Bool, true, false, cond, ◌&&◌, eqb, ltb, ◌↔◌, List, [], ◌∷◌, ◌++◌, get_or, sym, refl, ap, ◌∙◌, ap₂, mul_comm, suc-add, pow-suc, zero-add, div-one, arith, lit<, eqb→eq, eq-eqb, ne_eqb, eqb-true}
+use Rattle.std.proofs.Common.{◌≡◌, ℕ, zero, suc, ◌+◌, ◌-◌, ◌*◌, ◌/◌, ◌%◌, ◌^◌, true, cond, eqb, ltb, ◌↔◌, List, [], ◌∷◌, ◌++◌, get_or, sym, refl, ap, ◌∙◌, ap₂, mul_comm, suc-add, pow-suc, zero-add, div-one, arith, lit<, eqb→eq, eq-eqb, eqb-true}
 use native.Mathlib.Nat.{div-div-eq-div-mul}
-use native.Mathlib.Decide.{ℕ_discrete}
-use mathlib.Core.Logic.{by_cases}
-use lib.Bits.{bit_and, bit_xor, xor_mod, xor_shr, xor_zero_r}
+use lib.Bits.{bit_xor, xor_mod, xor_shr, xor_zero_r}
 use Rattle.clock_time.specs.Lists.{ascii, slice}
 use Rattle.clock_time.proofs.ListsLaws.{slice_slice}
 use Rattle.clock_time.proofs.Tests.{both, below_at}
 use Rattle.layout.specs.Layout.{FitsLayout, allowed}
 use Rattle.layout_words.specs.Words.{word}
 use Rattle.layout_words.proofs.WordLaws.{Bytes}
-use Rattle.trimble_sv6.specs.Sum.{xor_of, bytes_xor, trimble_sum, hex_digit, byte_pair, hex_pair, sum_holds}
+use Rattle.trimble_sv6.specs.Sum.{xor_of, bytes_xor, trimble_sum, hex_digit, sum_holds}
 use Rattle.trimble_sv6.specs.Trimble.{trimble_layout}
 use Rattle.trimble_sv6.specs.Says.{bit_at, bit_count, capital_hex, SumRules}
 use Rattle.trimble_sv6.proofs.XorLaws.{xor_assoc, xor_exchange, bit_xor_lem, bit_zero, low_bits, same_bits}
@@ -115,18 +113,8 @@ bit_count_lem k (suc n) at s =
     ∙ ap (λ (x : ℕ). (bit_at k (get_or s at 0) + x) % 2) (bit_count_lem k n (suc at) s)
     ∙ parity (bit_at k (get_or s at 0)) (bit_count k (suc at) n s)
 
--- the code's way to two hex digits at once
-pub pair_letters : (n : ℕ) → n < 256 → let digits = bit_and (n / 16 + 256 * n) 3855 in
-    digits + 12336 + 7 * bit_and ((digits + 1542) / 16) 257 ≡ hex_pair n
-unfolding hex_pair hex_digit
-pair_letters n h = eqb→eq _ _ (below_at 256 test tt n h)
-  where
-    test : ℕ → Bool
-    test n =
-        let digits = bit_and (n / 16 + 256 * n) 3855 in
-        eqb (digits + 12336 + 7 * bit_and ((digits + 1542) / 16) 257) (hex_pair n)
-
-hex_capital : (n : ℕ) → hex_digit n ≡ capital_hex (n % 16)
+-- the capital hex digits as the code has them
+pub hex_capital : (n : ℕ) → hex_digit n ≡ capital_hex (n % 16)
 unfolding hex_digit ascii
 hex_capital n =
     let capital : ℕ → ℕ = λ d. cond (ltb d 10) (48 + d) (65 + (d - 10)) in
@@ -163,28 +151,3 @@ sum_exactly s = (
 
     lower : n % 16 ≡ n % 256 % 16
     lower = omega arith
-
--- ---- the digits that were sent
-hex_byte : (n : ℕ) → hex_digit n < 256
-unfolding hex_digit
-hex_byte n = go (ltb (n % 16) 10)
-  where
-    go : (t : Bool) → cond t (48 + n % 16) (65 + (n % 16 - 10)) < 256
-    go true = omega arith
-    go false = omega arith
-
--- two bytes are others exactly if their number is
-pub pair_test : (a b c d : ℕ) → a < 256 → b < 256 → c < 256 → d < 256
-    → eqb (a + 256 * b) (c + 256 * d) ≡ (eqb a c && eqb b d)
-pair_test a b c d ha hb hc hd =
-    by_cases (ℕ_discrete a c)
-    (λ e. by_cases (ℕ_discrete b d)
-    (λ f. rw (eq-eqb _ _ e, eq-eqb _ _ f, eq-eqb (a + 256 * b) (c + 256 * d) (omega arith)))
-    (λ f. rw (eq-eqb _ _ e, ne_eqb _ _ f, ne_eqb (a + 256 * b) (c + 256 * d) (λ g. f (omega arith)))))
-    (λ e. rw (ne_eqb _ _ e, ne_eqb (a + 256 * b) (c + 256 * d) (λ g. e (omega arith))))
-
-pub sum_sent : (s : List ℕ) → Bytes s → eqb (byte_pair 34 s) (hex_pair (trimble_sum s)) ≡ sum_holds s
-unfolding byte_pair hex_pair sum_holds
-sum_sent s h =
-    pair_test (get_or s 34 0) (get_or s 35 0) (hex_digit (trimble_sum s / 16)) (hex_digit (trimble_sum s)) (h 34) (h 35)
-    (hex_byte (trimble_sum s / 16)) (hex_byte (trimble_sum s))

@@ -1,19 +1,18 @@
 -- Laws of the Trimble string: its numbers of three and four digits, and its reading once it fits its layout.
-use Rattle.std.proofs.Common.{◌≡◌, ℕ, suc, ◌+◌, ◌*◌, Bool, true, false, List, ◌∙◌, arith, le-leb}
-use Rattle.clock_time.specs.Errors.{accepted, refused, checked}
+use Rattle.std.proofs.Common.{◌≡◌, ℕ, suc, ◌+◌, ◌*◌, true, false, List, refl, ◌∙◌, arith}
+use Rattle.clock_time.specs.Errors.{Answer, accepted, refused, checked}
 use Rattle.clock_time.specs.declared.ClockTime.{ClockTime}
-use Rattle.gregorian.specs.Date.{supported_date, first_year, last_year}
+use Rattle.clock_time.proofs.ErrorLaws.{checked_map}
 use Rattle.calendar.specs.Date.{with_weekday}
-use Rattle.calendar.specs.TimeOfDay.{time_exists}
-use Rattle.calendar.proofs.WeekdayLaws.{weekday_least, weekday_most}
 use Rattle.decimal.specs.Decimal.{value_from}
 use Rattle.layout.specs.Layout.{FitsLayout, number, has}
 use Rattle.layout.specs.Text.{supported_day, clock_checks}
 use Rattle.layout.proofs.TextLaws.{later_checks, read_fitting}
 use Rattle.trimble_sv6.specs.Sum.{sum_holds}
-use Rattle.trimble_sv6.specs.Trimble.{trimble_layout, sent_fields, trimble_fields, read_clock, trimble}
+use Rattle.trimble_sv6.specs.Trimble.{trimble_layout, sent_fields, milliseconds_of, trimble_fields, read_clock, trimble}
 use Rattle.trimble_sv6.specs.Trimble.{read_trimble}
 use Rattle.trimble_sv6.specs.Says.{three_digits_at, four_digits_at}
+use Rattle.trimble_sv6.specs.declared.TrimbleTime.{TrimbleTime}
 
 -- ---- digits
 module _ (s : List ℕ) (at : ℕ) where
@@ -53,22 +52,17 @@ module _ {s : List ℕ} (f : FitsLayout trimble_layout s) where
   read_right h k = read_fits ∙ rw (h, k)
 
 -- ---- its clock time
--- the fields that are sent have no such date, or one and no such time, or both
-module _ (s : List ℕ) where
-  abbrev date : ClockTime → Bool
-  date t = supported_date first_year last_year t.year t.month t.day
+-- milliseconds beside a clock time
+abbrev pub timed : ℕ → Answer ClockTime → Answer TrimbleTime
+timed n (accepted t) = accepted (record { time = t; milliseconds = n })
+timed n (refused k) = refused k
 
-  abbrev time : ClockTime → Bool
-  time t = time_exists t.hour t.minute t.second t.utc_offset
-
-  pub no_date : date (sent_fields s) ≡ false → refused 5 ≡ read_clock s
-  unfolding clock_checks supported_day trimble_fields with_weekday
-  no_date d = simp d
-
-  pub no_time : date (sent_fields s) ≡ true → time (sent_fields s) ≡ false → refused 6 ≡ read_clock s
-  unfolding clock_checks supported_day trimble_fields with_weekday
-  no_time d t = simp (d, t)
-
-  pub dated : date (sent_fields s) ≡ true → time (sent_fields s) ≡ true → accepted (trimble_fields s) ≡ read_clock s
-  unfolding clock_checks supported_day trimble_fields with_weekday
-  dated d t = simp (d, t, le-leb _ _ (weekday_least _ _ _ d), le-leb _ _ (weekday_most _ _ _ d))
+pub read_clock_lem : (s : List ℕ) {t : ClockTime} {r : Answer ClockTime} → t ≡ sent_fields s
+    → r ≡ checked (clock_checks (supported_day t) (with_weekday t) false) (with_weekday t)
+    → timed (milliseconds_of s) r ≡ read_clock s
+unfolding trimble_fields with_weekday supported_day
+read_clock_lem s e h =
+    rw (h, e)
+    (checked_map (timed (milliseconds_of s)) (λ t. record { time = t; milliseconds = milliseconds_of s }) (λ t. refl)
+    (λ k. refl) (clock_checks (supported_day (sent_fields s)) (with_weekday (sent_fields s)) false)
+    (with_weekday (sent_fields s)))

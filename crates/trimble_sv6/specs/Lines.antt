@@ -1,5 +1,5 @@
 -- The table of refusals for the Trimble string, in words.
-use Rattle.std.specs.Prelude.{◌≡◌, ℕ, ◌⊎◌, List, [], ◌∷◌, length, ◌≢◌}
+use Rattle.std.specs.Prelude.{ℕ, ◌⊎◌, List, [], ◌∷◌, length, ◌≢◌}
 use Rattle.clock_time.specs.Order.{Line, line}
 use Rattle.gregorian.specs.Rules.{GregorianDate}
 use Rattle.calendar.specs.Rules.{TimeOfDay}

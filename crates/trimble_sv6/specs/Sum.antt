@@ -1,5 +1,5 @@
 -- The check sum of a Trimble string.
-use Rattle.std.specs.Prelude.{ℕ, zero, suc, ◌+◌, ◌-◌, ◌*◌, ◌/◌, ◌%◌, Bool, cond, ◌&&◌, List, [], ◌∷◌, ◌==◌, bit_xor, nat_lt, slice_index}
+use Rattle.std.specs.Prelude.{ℕ, zero, suc, ◌+◌, ◌-◌, ◌/◌, ◌%◌, Bool, cond, ◌&&◌, List, [], ◌∷◌, ◌==◌, bit_xor, nat_lt, slice_index}
 use Prim.Native.Char.{code}
 use Rattle.clock_time.specs.Lists.{slice}
 
@@ -20,14 +20,6 @@ trimble_sum s = xor_of (slice 0 34 s)
 -- the capital hex digit of a number's lowest four bits
 unfoldable pub hex_digit : ℕ → ℕ
 hex_digit n = cond (nat_lt (n % 16) 10) (code "0" + n % 16) (code "A" + (n % 16 - 10))
-
--- the bytes at a place and the next side by side, as one number whose lower byte is the first
-unfoldable pub byte_pair : ℕ → List ℕ → ℕ
-byte_pair at s = slice_index s at + 256 * slice_index s (suc at)
-
--- the two capital hex digits of a byte side by side, as one number of two bytes whose lower one is the first
-unfoldable pub hex_pair : ℕ → ℕ
-hex_pair n = hex_digit (n / 16) + 256 * hex_digit n
 
 -- "xx is two capital hex digits of the exclusive or of places 0 to 33." (02, T-01); "xx 34"
 unfoldable pub sum_holds : List ℕ → Bool

@@ -1,6 +1,6 @@
 -- The string of a Trimble SV6 receiver, 37 bytes.
 use Rattle.std.specs.Prelude.{ℕ, false, not, List, [], ◌∷◌, ◌++◌, pos}
-use Rattle.clock_time.specs.Errors.{Answer, accepted, refused, given, checked}
+use Rattle.clock_time.specs.Errors.{Answer, given, checked}
 use Rattle.clock_time.specs.Lists.{ascii}
 use Rattle.clock_time.specs.declared.ClockTime.{ClockTime}
 use Rattle.calendar.specs.Date.{with_weekday}

@@ -17,8 +17,8 @@ returns c =
     (simp (
       c.cet_offset.ensures,
       c.full_year.ensures,
-      c.numbers_at-time.ensures,
-      c.numbers_at-date.ensures,
+      c.numbers_at-2.ensures,
+      c.numbers_at.ensures,
       flags_read h c.requires.1,
       numbers_fit h,
     ))

@@ -2,7 +2,6 @@ use native.Mathlib.Omega.{arith}
 use borrow.Author.Rules.{sfits_of}
 use mir.Syntax.{w16}
 use mir.Val.{SFits}
-use mir.Facts.{to_z-of_z}
 use Rattle.clock_time.proofs.SameLaws.{eq_bits}
 use Rattle.elv_dcf7000.specs.Elv.{elv_offset, elv_representable}
 use Rattle.elv_dcf7000_writer.proofs.is_representable.Goals as goal

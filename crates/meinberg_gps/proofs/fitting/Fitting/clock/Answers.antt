@@ -16,8 +16,8 @@ returns c =
     (simp (
       c.offset.ensures,
       c.full_year.ensures,
-      c.numbers_at-time.ensures,
-      c.numbers_at-date.ensures,
+      c.numbers_at-2.ensures,
+      c.numbers_at.ensures,
       numbers_fit h,
       low_digit h,
     ))

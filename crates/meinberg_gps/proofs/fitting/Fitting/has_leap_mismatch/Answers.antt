@@ -6,4 +6,4 @@ use Rattle.meinberg_gps.proofs.fitting.Fitting.has_leap_mismatch.Goals as goal
 pub returns : goal.returns
 unfolding leap_mismatch gps_layout ascii
 returns c =
-    simp (c.numbers_at-time.ensures, numbers_fit c.args.self.fits)
+    simp (c.numbers_at.ensures, numbers_fit c.args.self.fits)

@@ -11,6 +11,6 @@ returns c =
     simp (
       c.sign_holds.ensures,
       c.offset_magnitude.ensures,
-      c.numbers_at-numbers.ensures,
+      c.numbers_at.ensures,
       numbers_two c.args.self.fits 25 (lit≤ tt) refl refl,
     )

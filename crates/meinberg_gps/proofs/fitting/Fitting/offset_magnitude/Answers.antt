@@ -8,4 +8,4 @@ use Rattle.meinberg_gps.proofs.fitting.Fitting.offset_magnitude.Goals as goal
 pub returns : goal.returns
 unfolding gps_layout ascii
 returns c =
-    simp (c.numbers_at-numbers.ensures, numbers_two c.args.self.fits 25 (lit≤ tt) refl refl)
+    simp (c.numbers_at.ensures, numbers_two c.args.self.fits 25 (lit≤ tt) refl refl)

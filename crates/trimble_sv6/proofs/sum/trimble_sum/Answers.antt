@@ -1,7 +1,7 @@
 use Rattle.std.proofs.Common.{arith}
 use Rattle.layout_words.specs.Words.{enough}
 use Rattle.trimble_sv6.proofs.SumLaws.{sum_fitting}
-use Rattle.trimble_sv6.proofs.sum.sum.Goals as goal
+use Rattle.trimble_sv6.proofs.sum.trimble_sum.Goals as goal
 
 pub returns : goal.returns
 unfolding enough
@@ -12,6 +12,6 @@ returns c =
       c.word_at-3.ensures,
       c.word_at-2.ensures,
       c.word_at.ensures,
-      c.requires.0,
+      c.told-s,
     )
-    (sum_fitting c.requires.1 (λ i. omega (arith, c.type_inv.s i)))
+    (sum_fitting c.requires (λ i. omega (arith, c.fits-s i)))

@@ -4,11 +4,11 @@ use Rattle.clock_time.specs.Lists.{ascii}
 use Rattle.layout.specs.Layout.{sample_place, allowed, fits_from}
 use Rattle.layout.proofs.PartLaws.{parts_fit_lem}
 use Rattle.layout_words.specs.Words.{enough, sample_fits}
-use Rattle.trimble_sv6.specs.Trimble.{trimble_layout}
-use Rattle.trimble_sv6.proofs.places.fits.Goals as goal
+use Rattle.trimble_sv6.specs.Trimble.{trimble_layout, trimble}
+use Rattle.trimble_sv6.proofs.format.TrimbleStringFormat37.fits.Goals as goal
 
 pub returns : goal.returns
-unfolding fits_from allowed ascii trimble_layout enough sample_place sample_fits
+unfolding fits_from allowed ascii trimble trimble_layout enough sample_place sample_fits
 returns c =
     rw (
       c.end_fits.ensures,
@@ -16,6 +16,6 @@ returns c =
       c.eight_fit-3.ensures,
       c.eight_fit-2.ensures,
       c.eight_fit.ensures,
-      c.requires,
+      c.told-s,
     )
     (parts_fit_lem (8 ∷ 8 ∷ 8 ∷ 8 ∷ 5 ∷ []) true 0 trimble_layout c.args.s.now)

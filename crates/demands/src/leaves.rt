@@ -20,6 +20,7 @@ ghost use Rattle.demands.specs.Exactly.{ReadsExactly, WritesExactly};
 
 use dcf77::MinuteTime;
 use meinberg_gps::GpsTime;
+use c_fields::FromNumbers;
 use clock_time::{ClockTime, Error, Position};
 use listing_lines::Totals;
 
@@ -73,14 +74,14 @@ fn time_of(z: &[i32]) -> Result<ClockTime, Error>
     ensures demand_1 { RefusesInOrder (tests (given 23 (not (fits_all time_ranges z.now)) ∷ [])) (23 ∷ []) (answer_of result) }
     ensures answer { answer_of result ≡ time_of z.now }
 {
-    c_fields::time_of(z)
+    ClockTime::from_numbers(z)
 }
 
 fn gps_of(z: &[i32]) -> Result<GpsTime, Error>
     ensures demand_1 { RefusesInOrder (tests (given 23 (not (fits_all gps_ranges z.now)) ∷ [])) (23 ∷ []) (answer_of result) }
     ensures answer { answer_of result ≡ gps_of z.now }
 {
-    c_fields::gps_of(z)
+    GpsTime::from_numbers(z)
 }
 
 fn minute_of(z: &[i32]) -> Result<MinuteTime, Error>
@@ -88,7 +89,7 @@ fn minute_of(z: &[i32]) -> Result<MinuteTime, Error>
         (answer_of result) }
     ensures answer { answer_of result ≡ minute_of z.now }
 {
-    c_fields::minute_of(z)
+    MinuteTime::from_numbers(z)
 }
 
 fn write_line(t: ClockTime, out: &mut [u8]) -> Result<usize, Error>

@@ -4,6 +4,6 @@ use Rattle.demands.proofs.leaves.gps_of.Goals as goal
 pub returns : goal.returns
 returns c =
     record {
-      demand_1 = rw c.gps_of.ensures (demand-1.gps_of_lem c.args.z.now);
-      answer = c.gps_of.ensures;
+      demand_1 = rw c.from_numbers.ensures (demand-1.gps_of_lem c.args.z.now);
+      answer = c.from_numbers.ensures;
     }

@@ -4,6 +4,6 @@ use Rattle.demands.proofs.leaves.minute_of.Goals as goal
 pub returns : goal.returns
 returns c =
     record {
-      demand_1 = rw c.minute_of.ensures (demand-1.minute_of_lem c.args.z.now);
-      answer = c.minute_of.ensures;
+      demand_1 = rw c.from_numbers.ensures (demand-1.minute_of_lem c.args.z.now);
+      answer = c.from_numbers.ensures;
     }

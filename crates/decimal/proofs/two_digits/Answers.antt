@@ -4,4 +4,4 @@ use Rattle.decimal.proofs.two_digits.Goals as goal
 
 pub returns : goal.returns
 unfolding digits
-returns c = let bytes = pair_bytes c.args.v in rw (c.to_le_bytes.ensures, bytes.0, bytes.1)
+returns c = let bytes = pair_bytes c.args.v in cc (c.to_le_bytes.ensures, bytes.0, bytes.1)

@@ -7,14 +7,14 @@ pub returns-then-pattern-s : goal.returns-then-pattern-s
 unfolding layout_error
 returns-then-pattern-s c = search (tests, length_patterned)
 
-pub returns-then-first_offence-pattern : goal.returns-then-first_offence-pattern
+pub returns-then-is_found : goal.returns-then-is_found
 unfolding layout_error
-returns-then-first_offence-pattern c = search (tests, length_patterned, ← c.first_offence.ensures)
+returns-then-is_found c = search (tests, length_patterned, ← c.is_found.ensures)
 
-pub returns-then-first_offence-pattern-2 : goal.returns-then-first_offence-pattern-2
+pub returns-then-is_found-2 : goal.returns-then-is_found-2
 unfolding layout_error
-returns-then-first_offence-pattern-2 c = search (tests, length_patterned, ← c.first_offence.ensures, ← c.first_offence-2.ensures)
+returns-then-is_found-2 c = search (tests, length_patterned, ← c.is_found.ensures, ← c.is_found-2.ensures)
 
 pub returns : goal.returns
 unfolding layout_error
-returns c = search (tests, length_patterned, ← c.first_offence.ensures, ← c.first_offence-2.ensures)
+returns c = search (tests, length_patterned, ← c.is_found.ensures, ← c.is_found-2.ensures)

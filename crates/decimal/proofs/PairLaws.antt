@@ -18,3 +18,8 @@ first_byte n = omega arith
 
 pub second_byte : (n : ℕ) → digit_pair n / 256 ≡ 48 + n % 10
 second_byte n = omega arith
+
+-- the bytes of the code's sum are the digits of the number
+pub pair_bytes : (n : ℕ) → let sum = 256 * (n % 100) - 2559 * (n % 100 / 10) + 12336 in
+    (sum % 256 ≡ 48 + n / 10 % 10) × (sum / 256 % 256 ≡ 48 + n % 10)
+pair_bytes n = (omega (arith, pair_sum n), omega (arith, pair_sum n))

@@ -8,6 +8,7 @@ use Rattle.clock_time.specs.declared.ClockTime.{ClockTime}
 use Rattle.gregorian.specs.Date.{supported_date, first_year, last_year}
 use Rattle.calendar.specs.TimeOfDay.{time_exists}
 use Rattle.decimal.specs.Decimal.{digits}
+use Rattle.layout.specs.declared.ClockDigits.{ClockDigits}
 use Rattle.layout.specs.Layout.{found}
 
 -- A format: its layout, a fault of its flags given with 4, its own checks before 5, the dates that it can give, a fault
@@ -79,7 +80,13 @@ abbrev pub letter : Bool → Char → ℕ
 letter on c = cond on (code c) 32
 
 -- the last two digits of each number of date and time
-unfoldable pub clock_digits : ClockTime → List ℕ
+unfoldable pub clock_digits : ClockTime → ClockDigits
 clock_digits t =
-    digits 2 t.year ++ digits 2 t.month ++ digits 2 t.day
-    ++ digits 2 t.hour ++ digits 2 t.minute ++ digits 2 t.second
+    record {
+      year = digits 2 t.year;
+      month = digits 2 t.month;
+      day = digits 2 t.day;
+      hour = digits 2 t.hour;
+      minute = digits 2 t.minute;
+      second = digits 2 t.second;
+    }

@@ -188,31 +188,27 @@ pub fn letter_if(on: bool, letter: u8) -> u8
     if on { letter } else { b' ' }
 }
 
-// The twelve digits of date and time, two for each number, as every line that is written has them.
-pub type ClockDigits = [u8; 12];
+// The last two digits of each number of date and time, as every line that is written has them.
+#[derive(Clone, Copy)]
+pub struct ClockDigits {
+    pub year: [u8; 2],
+    pub month: [u8; 2],
+    pub day: [u8; 2],
+    pub hour: [u8; 2],
+    pub minute: [u8; 2],
+    pub second: [u8; 2],
+}
 
 // The last two digits of year, month, day, hour, minute and second.
 pub fn clock_digits(t: ClockTime) -> ClockDigits
     ensures { result ≡ clock_digits t }
 {
-    let year = decimal::pair(t.year as u32);
-    let month = decimal::pair(t.month as u32);
-    let day = decimal::pair(t.day as u32);
-    let hour = decimal::pair(t.hour as u32);
-    let minute = decimal::pair(t.minute as u32);
-    let second = decimal::pair(t.second as u32);
-    [
-        (year % 256) as u8,
-        (year / 256) as u8,
-        (month % 256) as u8,
-        (month / 256) as u8,
-        (day % 256) as u8,
-        (day / 256) as u8,
-        (hour % 256) as u8,
-        (hour / 256) as u8,
-        (minute % 256) as u8,
-        (minute / 256) as u8,
-        (second % 256) as u8,
-        (second / 256) as u8,
-    ]
+    ClockDigits {
+        year: decimal::two_digits(u32::from(t.year)),
+        month: decimal::two_digits(u32::from(t.month)),
+        day: decimal::two_digits(u32::from(t.day)),
+        hour: decimal::two_digits(u32::from(t.hour)),
+        minute: decimal::two_digits(u32::from(t.minute)),
+        second: decimal::two_digits(u32::from(t.second)),
+    }
 }

@@ -3,7 +3,7 @@
 
 ghost use Rattle.std.specs.Prelude.{◌≡◌};
 ghost use Rattle.clock_time.specs.Writing.{written};
-ghost use Rattle.meinberg_standard.specs.Standard.{zone_letter, announced_letter, text_with, standard_text};
+ghost use Rattle.meinberg_standard.specs.Standard.{zone_letter, announced_letter, standard_text};
 ghost use Rattle.meinberg_standard.specs.Standard.{standard_representable, write_standard};
 
 use clock_time::{ClockTime, Error};
@@ -29,23 +29,23 @@ fn announced_letter(change: bool, leap: bool) -> u8
     layout::letter_if(leap, b'A')
 }
 
-// The layout with the fields of `t` and the four flag letters in it.
-fn text_with(t: ClockTime, u: u8, v: u8, x: u8, y: u8) -> [u8; 32]
-    ensures { result ≡ text_with t u v x y }
+// The only standard string that could be read as `t`.
+fn text_of(t: ClockTime) -> [u8; 32]
+    ensures { result ≡ standard_text t }
 {
     let d = layout::clock_digits(t);
     [
         2,
         b'D',
         b':',
-        d[4],
-        d[5],
+        d.day[0],
+        d.day[1],
         b'.',
-        d[2],
-        d[3],
+        d.month[0],
+        d.month[1],
         b'.',
-        d[0],
-        d[1],
+        d.year[0],
+        d.year[1],
         b';',
         b'T',
         b':',
@@ -53,31 +53,21 @@ fn text_with(t: ClockTime, u: u8, v: u8, x: u8, y: u8) -> [u8; 32]
         b';',
         b'U',
         b':',
-        d[6],
-        d[7],
+        d.hour[0],
+        d.hour[1],
         b'.',
-        d[8],
-        d[9],
+        d.minute[0],
+        d.minute[1],
         b'.',
-        d[10],
-        d[11],
+        d.second[0],
+        d.second[1],
         b';',
-        u,
-        v,
-        x,
-        y,
+        layout::letter_if(t.unsynchronised, b'#'),
+        layout::letter_if(t.unverified, b'*'),
+        zone_letter(t.utc_offset, t.summer_time),
+        announced_letter(t.dst_change_announced, t.leap_second_announced),
         3,
     ]
-}
-
-fn text_of(t: ClockTime) -> [u8; 32]
-    ensures { result ≡ standard_text t }
-{
-    let u = layout::letter_if(t.unsynchronised, b'#');
-    let v = layout::letter_if(t.unverified, b'*');
-    let x = zone_letter(t.utc_offset, t.summer_time);
-    let y = announced_letter(t.dst_change_announced, t.leap_second_announced);
-    text_with(t, u, v, x, y)
 }
 
 // Whether the letters of a standard string can represent `t`.
@@ -85,7 +75,7 @@ fn is_representable(t: ClockTime) -> bool
     ensures { result ≡ standard_representable t }
 {
     let zone = meinberg_standard::zone_offset(zone_letter(t.utc_offset, t.summer_time));
-    clock_time::same_offset(zone, t.utc_offset)
+    (zone == t.utc_offset)
         & !(t.dst_change_announced & t.leap_second_announced)
         & !t.alternate_antenna
 }

@@ -1,18 +1,17 @@
 -- Laws of signed numbers from a sign and a magnitude, at any width.
 use Prim.Native.Nat.{ℕ, zero, suc, ◌^◌, ◌≤◌, ◌<◌}
-use native.Mathlib.Nat.{zero-add}
 use native.Mathlib.Omega.{arith}
-use mathlib.Core.Path.{◌≡◌, refl, sym, ◌∙◌}
+use mathlib.Core.Path.{◌≡◌, refl, sym}
 use mathlib.Core.Logic.{◌↔◌, ◌⊎◌, inl, inr, ⊎_elim}
 use mathlib.Core.Bool.{Bool, true, false, cond, not, ◌&&◌, ◌||◌, and-false, or-true, true≢false}
 use lib.Dec.{leb, eqb}
 use lib.IntN.{ℤ, pos, negsuc, neg_ℤ, nat_abs, ◌-ℤ◌, +ℤ_idl}
 use lib.Pow.{pow_pos}
-use lib.Signed.{mag, lt_z, non_neg, nat_abs-le}
-use mir.Syntax.{Width, w32, w64}
+use lib.Signed.{mag, non_neg}
+use mir.Syntax.{Width}
 use mir.Val.{SFits, to_z, of_z, hbits}
-use mir.Facts.{to_z-of_z, to_z_pos, sfits_widen}
-use borrow.Author.Tests.{eqb-true, eqb-false, leb-true, le-ltb, ltb-true, not-true, eq-eqb, ne_eqb, le-leb}
+use mir.Facts.{to_z-of_z, to_z_pos}
+use borrow.Author.Tests.{eqb-true, eqb-false, leb-true, not-true, eq-eqb, ne_eqb, le-leb}
 use Rattle.clock_time.proofs.Tests.{both}
 use Rattle.signed.specs.Signed.{signed, sign_holds, sign_byte}
 
@@ -90,37 +89,6 @@ unfolding signed
 signed_magnitude true zero = refl
 signed_magnitude true (suc n) = refl
 signed_magnitude false n = refl
-
--- ---- magnitudes and signs
-pub below_zero : (z : ℤ) → lt_z z (pos 0) ≡ not (non_neg z)
-below_zero (pos n) = le-ltb n 0 (omega arith)
-below_zero (negsuc n) = refl
-
-turned : (z : ℤ) → lt_z z (pos 0) ≡ true → pos 0 -ℤ z ≡ pos (nat_abs z)
-turned (pos n) h = absurd (let l = ltb-true n 0 h in omega arith)
-turned (negsuc n) h = rw zero-add
-
-kept : (z : ℤ) → lt_z z (pos 0) ≡ false → z ≡ pos (nat_abs z)
-kept (pos n) h = refl
-kept (negsuc n) h = absurd (true≢false h)
-
--- a number of 32 bits, widened: what the machine holds for it, and for zero less it
-module _ {z : ℤ} (f : SFits w32 z) where
-  pub widened : to_z w64 (of_z w64 (to_z w32 (of_z w32 z))) ≡ z
-  widened = rw (to_z-of_z f) (to_z-of_z (sfits_widen {w = w32} {w' = w64} tt f))
-
-  pub magnitude_small : nat_abs z ≤ 2 ^ 31
-  magnitude_small = nat_abs-le z f.sfits
-
-  pub turned_fits : lt_z z (pos 0) ≡ true → SFits w64 (pos 0 -ℤ z)
-  turned_fits h = rw (turned z h) (record { sfits = omega (arith, magnitude_small) })
-
-  pub turned_held : lt_z z (pos 0) ≡ true
-      → to_z w64 (of_z w64 (pos 0 -ℤ to_z w64 (of_z w64 (to_z w32 (of_z w32 z))))) ≡ pos (nat_abs z)
-  turned_held h = rw widened (to_z-of_z (turned_fits h) ∙ turned z h)
-
-  pub kept_held : lt_z z (pos 0) ≡ false → to_z w64 (of_z w64 (to_z w32 (of_z w32 z))) ≡ pos (nat_abs z)
-  kept_held h = widened ∙ kept z h
 
 -- ---- the sign of what was read is the sign that was read
 pub sign_byte_signed : (above below limit byte magnitude : ℕ) → sign_holds above below limit byte magnitude ≡ true

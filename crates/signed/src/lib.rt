@@ -10,11 +10,8 @@ pub mod offset;
 pub fn with_sign(negative: bool, magnitude: u32) -> i64
     ensures { result ≡ signed negative magnitude }
 {
-    let z = magnitude as i64;
-    if negative {
-        return 0 - z;
-    }
-    z
+    let z = i64::from(magnitude);
+    if negative { -z } else { z }
 }
 
 // Whether a byte is one of two signs and a magnitude is within its limit, and no zero is below zero.
@@ -30,19 +27,12 @@ pub fn sign_holds(above: u8, below: u8, limit: u32, byte: u8, magnitude: u32) ->
 pub fn magnitude(z: i32) -> u32
     ensures { result ≡ nat_abs z }
 {
-    let w = z as i64;
-    if w < 0 {
-        return (0 - w) as u32;
-    }
-    w as u32
+    z.unsigned_abs()
 }
 
 // The sign of a number, zero among those above.
 pub fn sign_byte(above: u8, below: u8, z: i32) -> u8
     ensures { result ≡ sign_byte above below z }
 {
-    if z < 0 {
-        return below;
-    }
-    above
+    if z < 0 { below } else { above }
 }

@@ -9,15 +9,9 @@ pub type OffsetText = [u8; 6];
 pub fn offset_text(offset: i16) -> OffsetText
     ensures { result ≡ offset_text offset }
 {
-    let magnitude = crate::magnitude(offset as i32);
-    let hours = decimal::pair(magnitude / 60);
-    let minutes = decimal::pair(magnitude % 60);
-    [
-        crate::sign_byte(b'+', b'-', offset as i32),
-        (hours % 256) as u8,
-        (hours / 256) as u8,
-        b':',
-        (minutes % 256) as u8,
-        (minutes / 256) as u8,
-    ]
+    let magnitude = crate::magnitude(i32::from(offset));
+    let [ten_hours, hours] = decimal::two_digits(magnitude / 60);
+    let [ten_minutes, minutes] = decimal::two_digits(magnitude % 60);
+    let sign = crate::sign_byte(b'+', b'-', i32::from(offset));
+    [sign, ten_hours, hours, b':', ten_minutes, minutes]
 }

@@ -1,8 +1,6 @@
--- Its test is the definition's.
-use mathlib.Core.Path.{refl}
 use Rattle.decimal.specs.Decimal.{is_digit}
 use Rattle.decimal.proofs.is_digit.Goals as goal
 
 pub returns : goal.returns
 unfolding is_digit
-returns c = refl
+returns c = c.is_ascii_digit.ensures.value

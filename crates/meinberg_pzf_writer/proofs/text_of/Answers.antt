@@ -1,25 +1,25 @@
 use borrow.Author.Rules.{sfits_of}
-use mathlib.Core.Path.{◌∙◌}
 use mir.Syntax.{w16}
 use mir.Val.{SFits}
-use mir.Facts.{to_z-of_z}
+use Rattle.clock_time.specs.Lists.{ascii}
+use Rattle.clock_time.proofs.SameLaws.{zero_bits}
+use Rattle.decimal.specs.Decimal.{digits}
+use Rattle.layout.specs.Text.{clock_digits}
 use Rattle.meinberg_pzf.specs.Pzf.{pzf_text}
 use Rattle.meinberg_pzf_writer.proofs.text_of.Goals as goal
 
 pub returns : goal.returns
-unfolding pzf_text
+unfolding pzf_text digits ascii clock_digits
 returns c =
-    let offset_fits : SFits w16 c.args.t.utc_offset =
-    search sfits_of in
-    c.text_with.ensures
-    ∙ simp (
-      c.letter_if-a.ensures,
-      c.letter_if-z.ensures,
-      c.letter_if-y.ensures,
-      c.letter_if-x.ensures,
-      c.letter_if-v.ensures,
-      c.letter_if-u.ensures,
-      c.letter_if-utc.ensures,
-      c.same_offset.ensures,
-      to_z-of_z offset_fits,
+    let offset_fits : SFits w16 c.args.t.utc_offset = search sfits_of in
+    simp (
+      c.clock_digits-d.ensures,
+      c.letter_if-7.ensures,
+      c.letter_if-6.ensures,
+      c.letter_if-5.ensures,
+      c.letter_if-4.ensures,
+      c.letter_if-3.ensures,
+      c.letter_if-2.ensures,
+      c.letter_if.ensures,
+      zero_bits w16 offset_fits,
     )

@@ -11,7 +11,7 @@ use clock_time::{ClockTime, Error};
 fn flag_sum(summer: bool, change: bool, unsynchronised: bool) -> u8
     ensures { result ≡ flag_sum summer change unsynchronised }
 {
-    summer as u8 + 2 * (change as u8) + 4 * (unsynchronised as u8)
+    u8::from(summer) + 2 * u8::from(change) + 4 * u8::from(unsynchronised)
 }
 
 // The layout with the fields of `t` and the number of its flags in it.
@@ -19,29 +19,29 @@ fn text_with(t: ClockTime, flags: u8) -> [u8; 21]
     ensures { result ≡ text_with t flags }
 {
     let d = layout::clock_digits(t);
-    let number = decimal::pair(flags as u32);
+    let [tens, ones] = decimal::two_digits(u32::from(flags));
     [
-        d[0],
-        d[1],
+        d.year[0],
+        d.year[1],
         b'-',
-        d[2],
-        d[3],
+        d.month[0],
+        d.month[1],
         b'-',
-        d[4],
-        d[5],
+        d.day[0],
+        d.day[1],
         b'-',
-        d[6],
-        d[7],
+        d.hour[0],
+        d.hour[1],
         b'-',
-        d[8],
-        d[9],
+        d.minute[0],
+        d.minute[1],
         b'-',
-        d[10],
-        d[11],
+        d.second[0],
+        d.second[1],
         b'-',
-        (number % 256) as u8,
-        (number / 256) as u8,
-        13,
+        tens,
+        ones,
+        b'\r',
     ]
 }
 

@@ -30,12 +30,7 @@ pub(crate) fn aligned_text(n: u32) -> [u8; 4]
 pub(crate) fn decimals(n: u32) -> [u8; 4]
     ensures { result ≡ digits 4 n }
 {
-    let high = decimal::pair(n / 10 / 10);
-    let low = decimal::pair(n);
-    [
-        (high % 256) as u8,
-        (high / 256) as u8,
-        (low % 256) as u8,
-        (low / 256) as u8,
-    ]
+    let [a, b] = decimal::two_digits(n / 100);
+    let [c, d] = decimal::two_digits(n);
+    [a, b, c, d]
 }

@@ -17,4 +17,6 @@ overflow_add-result-2 c =
     omega (arith, byte_small c.args.summer, byte_small c.args.change, byte_small c.args.unsynchronised)
 
 pub returns : goal.returns
-returns c = flag_sum_bytes c.args.summer c.args.change c.args.unsynchronised
+returns c =
+    rw (c.from-3.ensures, c.from-2.ensures, c.from.ensures)
+    (flag_sum_bytes c.args.summer c.args.change c.args.unsynchronised)

@@ -59,7 +59,8 @@ unfolding after
 passed_none l s = record { passed = 0; left = refl; state = refl }
 
 -- of what is left some bytes are taken
-module _ (l g end : Listing) (s rest : List ℕ) (r : Result ℕ Error) (p : Passed l s g rest) (w : Takes g rest end r) where
+module _ (l g end : Listing) (s rest : List ℕ) (r : Result ℕ Error)
+    (p : Passed l s g rest) (w : Takes g rest end r) where
   passed_state : end ≡ after l (take (p.passed + w.taken) s)
   passed_state =
       w.state

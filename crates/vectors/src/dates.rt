@@ -5,7 +5,7 @@ use calendar::{date, time_of_day};
 use clock_time::Error;
 use gregorian::FIRST_YEAR;
 
-static ERRORS: [Error; 24] = [
+static ERRORS: [Error; 25] = [
     Error::Length,
     Error::FixedByte,
     Error::NotDigit,
@@ -30,12 +30,13 @@ static ERRORS: [Error; 24] = [
     Error::NewMark,
     Error::Unrepresentable,
     Error::Checksum,
+    Error::ValidityFlag,
 ];
 
 // The number of the error at a place of the enum, which starts at 0; of the last if there is no such place.
 pub fn error_number(place: u8) -> u8 {
-    let error = ERRORS.get(usize::from(place)).copied();
-    clock_time::error_number(error.unwrap_or(Error::ValidityFlag))
+    let last = ERRORS.len() - 1;
+    clock_time::error_number(ERRORS[last.min(usize::from(place))])
 }
 
 pub fn is_leap_year(year: u16) -> bool {

@@ -4,20 +4,13 @@ use native.Mathlib.Omega.{arith}
 use mathlib.Core.Path.{◌≡◌}
 use lib.Dec.{lit<}
 use lib.Arith.{mod-mul}
-use Rattle.decimal.specs.Decimal.{digit_pair}
 
 -- 256 for each one of the number is 2,560 for each ten, of which one is left
-pub pair_sum : (n : ℕ) → 256 * (n % 100) - 2559 * (n % 100 / 10) + 12336 ≡ digit_pair n
+pair_sum : (n : ℕ) → 256 * (n % 100) - 2559 * (n % 100 / 10) + 12336
+    ≡ 48 + n / 10 % 10 + 256 * (48 + n % 10)
 pair_sum n =
     let both : n % 100 ≡ n / 10 % 10 * 10 + n % 10 = mod-mul n {m = 10} {c = 10} (lit< tt) (lit< tt) in
     omega (arith, both)
-
--- the byte of the tens and that of the ones
-pub first_byte : (n : ℕ) → digit_pair n % 256 ≡ 48 + n / 10 % 10
-first_byte n = omega arith
-
-pub second_byte : (n : ℕ) → digit_pair n / 256 ≡ 48 + n % 10
-second_byte n = omega arith
 
 -- the bytes of the code's sum are the digits of the number
 pub pair_bytes : (n : ℕ) → let sum = 256 * (n % 100) - 2559 * (n % 100 / 10) + 12336 in

@@ -23,7 +23,3 @@ value s = value_from 0 s
 unfoldable pub digits : ℕ → ℕ → List ℕ
 digits zero n = []
 digits (suc k) n = digits k (n / 10) ++ ((48 + n % 10) ∷ [])
-
--- the last two decimal digits of n as two bytes side by side in one number, the first digit the lower byte
-abbrev pub digit_pair : ℕ → ℕ
-digit_pair n = 48 + n / 10 % 10 + 256 * (48 + n % 10)

@@ -2,7 +2,7 @@
 #![tactic(auto)]
 
 ghost use Rattle.std.specs.Prelude.{◌≡◌};
-ghost use Rattle.decimal.specs.Decimal.{is_digit, digits, digit_pair};
+ghost use Rattle.decimal.specs.Decimal.{is_digit, digits};
 
 // Whether a byte is one of `0` to `9`.
 pub fn is_digit(b: u8) -> bool
@@ -17,12 +17,4 @@ pub fn two_digits(v: u32) -> [u8; 2]
 {
     let w = (v % 100) as u16;
     (256 * w - 2559 * (w / 10) + 12336).to_le_bytes()
-}
-
-// The last two digits of a number as two bytes side by side in one number, which the compiler stores at once.
-pub fn pair(v: u32) -> u32
-    ensures { result ≡ digit_pair v }
-{
-    let w = v % 100;
-    256 * w - 2559 * (w / 10) + 12336
 }

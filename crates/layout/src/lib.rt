@@ -80,11 +80,18 @@ pub fn check_without_weekday(t: ClockTime) -> Result<ClockTime, Error>
     Ok(calendar::date::with_weekday(t))
 }
 
+// The letter if `on`, else the other byte.
+pub fn letter_or(on: bool, letter: u8, other: u8) -> u8
+    ensures { result ≡ cond on letter other }
+{
+    if on { letter } else { other }
+}
+
 // The letter if `on`, else a blank.
 pub fn letter_if(on: bool, letter: u8) -> u8
     ensures { result ≡ cond on letter 32 }
 {
-    if on { letter } else { b' ' }
+    letter_or(on, letter, b' ')
 }
 
 // The last two digits of each number of date and time, as every line that is written has them.

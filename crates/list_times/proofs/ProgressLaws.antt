@@ -19,13 +19,13 @@ use Rattle.listing.proofs.ListingLaws.{after_append}
 use Rattle.list_times.specs.Progress.{Takes, ListsAll, Reaches}
 
 -- what was written stands at the front
-pub written_fits : (n : ℕ) (x text d : List ℕ) → written (answers.Written n) x ≡ writing true text d → n ≤ length x
+pub written_fits : (n : ℕ) (x text d : List ℕ) → written (Ok n) x ≡ writing true text d → n ≤ length x
 written_fits n x text d e =
     let w = writing_accepted text d true n (sym (ap (λ (o : Written). o.answer) e)) in
     let m : x ≡ text ++ drop (length text) d = ap (λ (o : Written). o.memory) e ∙ w.2 in
     rw (w.1, m) (omega (arith, length-append text (drop (length text) d)))
 
-pub written_text : (n : ℕ) (x text d : List ℕ) → written (answers.Written n) x ≡ writing true text d → take n x ≡ text
+pub written_text : (n : ℕ) (x text d : List ℕ) → written (Ok n) x ≡ writing true text d → take n x ≡ text
 written_text n x text d e =
     let w = writing_accepted text d true n (sym (ap (λ (o : Written). o.answer) e)) in
     let m : x ≡ text ++ drop (length text) d = ap (λ (o : Written). o.memory) e ∙ w.2 in
@@ -58,7 +58,8 @@ unfolding after
 passed_none l s = record { passed = 0; left = refl; state = refl }
 
 -- of what is left some bytes are taken
-module _ (l g end : Listing) (s rest : List ℕ) (r : Result ℕ Error) (p : Passed l s g rest) (w : Takes g rest end r) where
+module _ (l g end : Listing) (s rest : List ℕ) (r : Result ℕ Error)
+    (p : Passed l s g rest) (w : Takes g rest end r) where
   passed_state : end ≡ after l (take (p.passed + w.taken) s)
   passed_state =
       w.state

@@ -1,26 +1,20 @@
 // The line of a clock time.
-ghost use Rattle.std.specs.Prelude.{◌≡◌, cond};
+ghost use Rattle.std.specs.Prelude.{◌≡◌};
 ghost use Rattle.listing_lines.specs.Line.{flags_text, time_line};
 
 use clock_time::ClockTime;
-
-fn letter_or_dash(on: bool, letter: u8) -> u8
-    ensures { result ≡ cond on letter 45 }
-{
-    if on { letter } else { b'-' }
-}
 
 fn flags_text(t: ClockTime) -> [u8; 7]
     ensures { result ≡ flags_text t }
 {
     [
-        letter_or_dash(t.unsynchronised, b'#'),
-        letter_or_dash(t.unverified, b'*'),
-        letter_or_dash(t.summer_time, b'S'),
-        letter_or_dash(t.dst_change_announced, b'!'),
-        letter_or_dash(t.leap_second_announced, b'A'),
-        letter_or_dash(t.alternate_antenna, b'R'),
-        letter_or_dash(t.second == 60, b'L'),
+        layout::letter_or(t.unsynchronised, b'#', b'-'),
+        layout::letter_or(t.unverified, b'*', b'-'),
+        layout::letter_or(t.summer_time, b'S', b'-'),
+        layout::letter_or(t.dst_change_announced, b'!', b'-'),
+        layout::letter_or(t.leap_second_announced, b'A', b'-'),
+        layout::letter_or(t.alternate_antenna, b'R', b'-'),
+        layout::letter_or(t.second == 60, b'L', b'-'),
     ]
 }
 
@@ -33,28 +27,28 @@ pub fn time_line(t: ClockTime) -> LineBytes
 {
     let zone = signed::offset::offset_text(t.utc_offset);
     let flags = flags_text(t);
-    let century = decimal::pair(t.year as u32 / 10 / 10);
+    let century = decimal::two_digits(u32::from(t.year) / 10 / 10);
     let d = layout::clock_digits(t);
     [
-        (century % 256) as u8,
-        (century / 256) as u8,
-        d[0],
-        d[1],
+        century[0],
+        century[1],
+        d.year[0],
+        d.year[1],
         b'-',
-        d[2],
-        d[3],
+        d.month[0],
+        d.month[1],
         b'-',
-        d[4],
-        d[5],
+        d.day[0],
+        d.day[1],
         b' ',
-        d[6],
-        d[7],
+        d.hour[0],
+        d.hour[1],
         b':',
-        d[8],
-        d[9],
+        d.minute[0],
+        d.minute[1],
         b':',
-        d[10],
-        d[11],
+        d.second[0],
+        d.second[1],
         b' ',
         zone[0],
         zone[1],

@@ -2,19 +2,22 @@
 use crate::digit_run;
 use crate::recordings::{Change, Lent, Sheet};
 use crate::strings::MINUTE;
+use clock_time::Date;
+use std::str;
 
-// What a word that is no number counts as. Only `write` takes it for one.
+// What is no number counts as this. Only `write` takes numbers so large.
 const NO_NUMBER: u64 = 10_000_000_000_000_000_000;
 
+// A command, with its numbers in the order of the line.
 #[derive(Clone, Copy)]
 pub enum Command<'a> {
     Error(u8),
     Leap(u16),
     Year(u8),
     Month(u16, u8),
-    Date(u16, u8, u8),
-    Day(u16, u8, u8),
-    Weekday(u16, u8, u8),
+    Date(Date),
+    Day(Date),
+    Weekday(Date),
     Time(u8, u8, u8, i16),
     Unix([i32; 14]),
     Read(u8),
@@ -45,6 +48,7 @@ pub fn number_of(word: &[u8]) -> u64 {
     }
 }
 
+// The number as one of a type, if it fits.
 fn to<T: TryFrom<u64>>(number: &u64) -> Option<T>
 where
     T::Error: Drop,
@@ -69,13 +73,19 @@ fn to_u32(number: &u64) -> Option<u32> {
     to_u64(number).map(|number| (number % 4294967296) as u32)
 }
 
-// The word's last eight bytes, without the zero bytes before them: no more of a word counts.
-fn last_eight(word: &[u8]) -> &[u8] {
+// The word's last eight bytes, without the zero bytes before them: no more of a word counts. Names are text.
+fn name_of(word: &[u8]) -> &str {
     let last = word.last_chunk::<8>().map_or(word, |last| last.as_slice());
-    match last.iter().position(|b| *b != 0) {
-        Some(zeros) => &last[zeros..],
-        None => b"",
-    }
+    let zeros = last.iter().take_while(|b| **b == 0).count();
+    str::from_utf8(&last[zeros..]).unwrap_or("")
+}
+
+fn to_date(year: &u64, month: &u64, day: &u64) -> Option<Date> {
+    Some(Date {
+        year: to(year)?,
+        month: to(month)?,
+        day: to(day)?,
+    })
 }
 
 // The first numbers of a reading, and zeros for the rest.
@@ -129,36 +139,36 @@ fn mend(numbers: &[u64]) -> Option<Command<'_>> {
 impl<'a> Command<'a> {
     // The command with this name and these numbers, if there is one. `write` takes any numbers.
     pub fn parse(word: &[u8], numbers: &'a [u64]) -> Option<Command<'a>> {
-        Some(match (last_eight(word), numbers) {
-            (b"error", [place]) => Command::Error(to(place)?),
-            (b"leap", [year]) => Command::Leap(to(year)?),
-            (b"year", [digits]) => Command::Year(to(digits)?),
-            (b"month", [year, month]) => Command::Month(to(year)?, to(month)?),
-            (b"date", [year, month, day]) => Command::Date(to(year)?, to(month)?, to(day)?),
-            (b"day", [year, month, day]) => Command::Day(to(year)?, to(month)?, to(day)?),
-            (b"weekday", [year, month, day]) => Command::Weekday(to(year)?, to(month)?, to(day)?),
-            (b"time", [hour, minute, second, offset]) => {
+        Some(match (name_of(word), numbers) {
+            ("error", [place]) => Command::Error(to(place)?),
+            ("leap", [year]) => Command::Leap(to(year)?),
+            ("year", [digits]) => Command::Year(to(digits)?),
+            ("month", [year, month]) => Command::Month(to(year)?, to(month)?),
+            ("date", [year, month, day]) => Command::Date(to_date(year, month, day)?),
+            ("day", [year, month, day]) => Command::Day(to_date(year, month, day)?),
+            ("weekday", [year, month, day]) => Command::Weekday(to_date(year, month, day)?),
+            ("time", [hour, minute, second, offset]) => {
                 Command::Time(to(hour)?, to(minute)?, to(second)?, to_i16(offset)?)
             }
-            (b"unix", numbers) => Command::Unix(unix(numbers)?),
-            (b"read", [kind]) => Command::Read(to(kind)?),
-            (b"kind", []) => Command::Kind,
-            (b"trimble", []) => Command::Trimble,
-            (b"write", numbers) => Command::Write(numbers),
-            (b"digits", []) => Command::Digits,
-            (b"number", [number, count, room]) => {
+            ("unix", numbers) => Command::Unix(unix(numbers)?),
+            ("read", [kind]) => Command::Read(to(kind)?),
+            ("kind", []) => Command::Kind,
+            ("trimble", []) => Command::Trimble,
+            ("write", numbers) => Command::Write(numbers),
+            ("digits", []) => Command::Digits,
+            ("number", [number, count, room]) => {
                 Command::Number(to_u64(number)?, to_usize(count)?, to_usize(room)?)
             }
-            (b"run", []) => Command::Run,
-            (b"outcome", [outcome]) => Command::Outcome(to_u32(outcome)?),
-            (b"at", [length, place]) => Command::At(to_usize(length)?, to_usize(place)?),
-            (b"fill", [marks, outcomes]) => Command::Fill(Lent {
+            ("run", []) => Command::Run,
+            ("outcome", [outcome]) => Command::Outcome(to_u32(outcome)?),
+            ("at", [length, place]) => Command::At(to_usize(length)?, to_usize(place)?),
+            ("fill", [marks, outcomes]) => Command::Fill(Lent {
                 marks: to_usize(marks)?,
                 outcomes: to_usize(outcomes)?,
             }),
-            (b"correct", numbers) => correct(numbers, Sheet::Right)?,
-            (b"unfit", numbers) => correct(numbers, Sheet::Unfit)?,
-            (b"mend", numbers) => mend(numbers)?,
+            ("correct", numbers) => correct(numbers, Sheet::Right)?,
+            ("unfit", numbers) => correct(numbers, Sheet::Unfit)?,
+            ("mend", numbers) => mend(numbers)?,
             _ => return None,
         })
     }
@@ -166,7 +176,7 @@ impl<'a> Command<'a> {
     // What the text of a command shows in place of a zero byte: that of marks has a digit for each.
     pub fn base(&self) -> u8 {
         match self {
-            Command::Kind | Command::Trimble | Command::Digits | Command::Number(..) => 0,
+            Command::Kind | Command::Trimble | Command::Digits => 0,
             Command::Read(kind) if *kind != MINUTE => 0,
             _ => b'0',
         }

@@ -4,7 +4,7 @@ use calendar::{date, time_of_day};
 use clock_time::{Date, Error};
 use gregorian::FIRST_YEAR;
 
-static ERRORS: [Error; 24] = [
+static ERRORS: [Error; 25] = [
     Error::Length,
     Error::FixedByte,
     Error::NotDigit,
@@ -29,12 +29,13 @@ static ERRORS: [Error; 24] = [
     Error::NewMark,
     Error::Unrepresentable,
     Error::Checksum,
+    Error::ValidityFlag,
 ];
 
 // The number of the error at a place of the enum, which starts at 0; of the last if there is no such place.
 pub fn error_number(place: u8) -> u8 {
-    let error = ERRORS.get(usize::from(place)).copied();
-    u8::from(error.unwrap_or(Error::ValidityFlag))
+    let last = ERRORS.len() - 1;
+    u8::from(ERRORS[last.min(usize::from(place))])
 }
 
 pub fn is_leap_year(year: u16) -> bool {

@@ -19,6 +19,6 @@ fn write(number: u64, count: usize, space: &mut [u8], room: usize) -> Result<usi
 // Puts how many digits are written, and the buffer.
 pub fn put_written(rt: &impl Print, number: u64, count: usize, room: usize) -> io::Result<()> {
     let mut space = output::EMPTY;
-    output::put(rt, write(number, count, &mut space, room))?;
+    output::put_result(rt, write(number, count, &mut space, room))?;
     output::put_text(rt, &space, room, 0)
 }

@@ -28,28 +28,25 @@ const MOST_NUMBERS: usize = 23;
 // Puts the answer to a command whose text is s.
 fn put_command(rt: &impl Print, alloc: Global, command: Command<'_>, s: &[u8]) -> io::Result<()> {
     match command {
-        Command::Error(place) => output::put_number(rt, dates::error_number(place)),
+        Command::Error(place) => output::put(rt, dates::error_number(place)),
         Command::Leap(year) => output::put_truth(rt, dates::is_leap_year(year)),
-        Command::Year(digits) => output::put_number(rt, dates::full_year(digits)),
-        Command::Month(year, month) => output::put_number(rt, dates::days_in_month(year, month)),
-        Command::Date(year, month, day) => output::put_truth(
-            rt,
-            dates::date_exists(year, month, day),
-        ),
-        Command::Day(year, month, day) => output::put(rt, dates::day_number(year, month, day)),
-        Command::Weekday(year, month, day) => output::put(rt, dates::weekday_of(year, month, day)),
+        Command::Year(digits) => output::put(rt, dates::full_year(digits)),
+        Command::Month(year, month) => output::put(rt, dates::days_in_month(year, month)),
+        Command::Date(date) => output::put_truth(rt, dates::date_exists(date)),
+        Command::Day(date) => output::put_result(rt, dates::day_number(date)),
+        Command::Weekday(date) => output::put_result(rt, dates::weekday_of(date)),
         Command::Time(hour, minute, second, offset) => {
             output::put_truth(rt, dates::time_exists(hour, minute, second, offset))
         }
-        Command::Unix(fields) => output::put(rt, strings::unix_time(&fields)),
+        Command::Unix(fields) => output::put_result(rt, strings::unix_time(&fields)),
         Command::Read(kind) => strings::put_read(rt, kind, s),
         Command::Kind => strings::put_kind(rt, s),
         Command::Trimble => strings::put_trimble(rt, s),
         Command::Write(numbers) => strings::put_written(rt, numbers),
-        Command::Digits => output::put(rt, digits::read(s)),
+        Command::Digits => output::put_result(rt, digits::read(s)),
         Command::Number(number, count, room) => digits::put_written(rt, number, count, room),
-        Command::Run => output::put_number(rt, dcf77_outcome::run_number(s)),
-        Command::Outcome(outcome) => output::put(rt, recordings::unix_time(outcome)),
+        Command::Run => output::put(rt, dcf77_outcome::run_number(s)),
+        Command::Outcome(outcome) => output::put_result(rt, recordings::unix_time(outcome)),
         Command::At(length, place) => recordings::put_outcome(rt, alloc, s, length, place),
         Command::Fill(lent) => recordings::put_sheet(rt, alloc, s, lent),
         Command::Correct(change, sheet) => recordings::put_corrected(rt, alloc, s, change, sheet),

@@ -6,25 +6,21 @@ use std::io;
 // A buffer that is lent, before it is written to.
 pub const EMPTY: [u8; 256] = [b'.'; 256];
 
-// Puts a number after a blank.
-pub fn put_number(rt: &impl Print, number: impl Display + Drop) -> io::Result<()> {
-    print!(rt; " {number}")
-}
-
-// Puts 1 if a thing is true.
-pub fn put_truth(rt: &impl Print, is_true: bool) -> io::Result<()> {
-    put_number(rt, u8::from(is_true))
-}
-
-pub fn put_refusal(rt: &impl Print, refusal: Refusal) -> io::Result<()> {
-    print!(rt; " {refusal}")
-}
-
 // Puts a number or a refusal, after a blank.
-pub fn put<T: Display + Drop>(rt: &impl Print, answer: Result<T, Refusal>) -> io::Result<()> {
-    match answer {
-        Ok(number) => put_number(rt, number),
-        Err(refusal) => put_refusal(rt, refusal),
+pub fn put(rt: &impl Print, answer: impl Display + Drop) -> io::Result<()> {
+    print!(rt; " {answer}")
+}
+
+// Puts 1 if a thing is true, else 0.
+pub fn put_truth(rt: &impl Print, is_true: bool) -> io::Result<()> {
+    put(rt, u8::from(is_true))
+}
+
+// Puts what a call left, or its refusal.
+pub fn put_result<T: Display + Drop>(rt: &impl Print, left: Result<T, Refusal>) -> io::Result<()> {
+    match left {
+        Ok(answer) => put(rt, answer),
+        Err(refusal) => put(rt, refusal),
     }
 }
 

@@ -13,7 +13,7 @@ use clock_time::Error;
 use std::alloc::{AllocError, Global};
 use std::io;
 
-// How many marks and outcomes there are to lend.
+// So many marks and outcomes there are.
 const LENGTH: usize = 100001;
 
 // How many marks and outcomes are lent.
@@ -39,6 +39,7 @@ pub enum Sheet {
     Unfit,
 }
 
+// Marks and their sheet, of which a command lends the first.
 #[derive(Drop)]
 struct Recording {
     marks: Vec<u8>,
@@ -77,7 +78,7 @@ impl Recording {
         Ok(number)
     }
 
-    // Makes the sheet; refuses with LentMemory (20) if there are fewer outcomes than are lent.
+    // Makes the sheet. Refuses with LentMemory (20) if there are fewer outcomes than are lent; then it stays as it was.
     fn fill(&mut self, lent: Lent) -> Result<(), Refusal> {
         match self.outcomes.as_mut_slice().get_mut(..lent.outcomes) {
             Some(outcomes) => check(radio_clock_fill_outcomes(
@@ -124,14 +125,14 @@ pub fn put_outcome(
     place: usize,
 ) -> io::Result<()> {
     let recording = Recording::new(alloc, s)?;
-    output::put(rt, recording.outcome_at(length, place))
+    output::put_result(rt, recording.outcome_at(length, place))
 }
 
 // Puts how many outcomes a sheet has, and their sum.
 pub fn put_sheet(rt: &impl Print, alloc: Global, s: &[u8], lent: Lent) -> io::Result<()> {
     let mut recording = Recording::new(alloc, s)?;
-    output::put(rt, recording.fill(lent).map(|()| lent.outcomes))?;
-    output::put_number(rt, sum(first(&recording.outcomes, lent.outcomes)))
+    output::put_result(rt, recording.fill(lent).map(|()| lent.outcomes))?;
+    output::put(rt, sum(first(&recording.outcomes, lent.outcomes)))
 }
 
 // Puts what a correction answers, then the sums of the marks, of the outcomes, and of these once they are made anew.
@@ -154,9 +155,9 @@ pub fn put_corrected(
         }
         Sheet::Unfit => {}
     }
-    output::put(rt, recording.correct(change))?;
-    output::put_number(rt, sum(first(&recording.marks, lent.marks)))?;
-    output::put_number(rt, sum(first(&recording.outcomes, lent.outcomes)))?;
+    output::put_result(rt, recording.correct(change))?;
+    output::put(rt, sum(first(&recording.marks, lent.marks)))?;
+    output::put(rt, sum(first(&recording.outcomes, lent.outcomes)))?;
     let _ = recording.fill(lent);
-    output::put_number(rt, sum(first(&recording.outcomes, lent.outcomes)))
+    output::put(rt, sum(first(&recording.outcomes, lent.outcomes)))
 }

@@ -52,7 +52,7 @@ fn kind_of(s: &[u8]) -> Result<u8, Refusal> {
 
 fn put_fields(rt: &impl Print, fields: &[i32]) -> io::Result<()> {
     for field in fields {
-        output::put_number(rt, *field)?;
+        output::put(rt, *field)?;
     }
     Ok(())
 }
@@ -70,7 +70,7 @@ fn are_written_as(kind: u8, fields: &[i32], s: &[u8]) -> bool {
 pub fn put_read(rt: &impl Print, kind: u8, s: &[u8]) -> io::Result<()> {
     let mut space = [0; MOST_FIELDS];
     if let Err(refusal) = read(kind, s, &mut space) {
-        return output::put_refusal(rt, refusal);
+        return output::put(rt, refusal);
     }
     let fields = &space[..count_of(kind)];
     put_fields(rt, fields)?;
@@ -80,7 +80,7 @@ pub fn put_read(rt: &impl Print, kind: u8, s: &[u8]) -> io::Result<()> {
 // Puts the kind of s, and what it is read as.
 pub fn put_kind(rt: &impl Print, s: &[u8]) -> io::Result<()> {
     let kind = kind_of(s);
-    output::put(rt, kind)?;
+    output::put_result(rt, kind)?;
     match kind {
         Ok(kind) => put_read(rt, kind, s),
         Err(_) => Ok(()),
@@ -92,7 +92,7 @@ pub fn put_trimble(rt: &impl Print, s: &[u8]) -> io::Result<()> {
     let mut fields = [0; 15];
     match check(radio_clock_read_trimble(s, &mut fields)) {
         Ok(()) => put_fields(rt, &fields),
-        Err(refusal) => output::put_refusal(rt, refusal),
+        Err(refusal) => output::put(rt, refusal),
     }
 }
 
@@ -119,7 +119,7 @@ pub fn put_written(rt: &impl Print, numbers: &[u64]) -> io::Result<()> {
     }
     let fields = fields.get(..given.len()).unwrap_or(&fields);
     let mut space = output::EMPTY;
-    output::put(
+    output::put_result(
         rt,
         write_first((kind % 256) as u8, fields, &mut space, room),
     )?;

@@ -5,7 +5,7 @@ ghost use Rattle.std.specs.Iterator.{at_most};
 
 use std::alloc::{AllocError, Global};
 
-// The bytes of a text or of a lent buffer: no line has more.
+// So many bytes of a text count.
 const MOST_BYTES: usize = 256;
 
 // The words of a line, up to a colon, and its text, which starts two bytes after the colon.
@@ -45,7 +45,7 @@ impl Iterator for Decoded<'_> {
     }
 }
 
-// The bytes that a text stands for, each less `base`, as far as they count.
+// The bytes that a text stands for, each less `base`.
 pub fn decode(alloc: Global, shown: &[u8], base: u8) -> Result<Vec<u8>, AllocError> {
     Decoded(shown)
         .take(MOST_BYTES)

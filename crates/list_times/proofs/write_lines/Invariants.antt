@@ -1,4 +1,4 @@
--- The listing is the one after the bytes that are passed, and each turn passes some, as the buffer has room for any line.
+-- The listing is the one after the bytes passed, and each turn passes some, as the buffer has room for any line.
 use lib.ListN.{length}
 use Rattle.list_times.proofs.ProgressLaws.{Passed}
 use Rattle.list_times.proofs.write_lines.Given as goal

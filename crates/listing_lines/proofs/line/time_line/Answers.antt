@@ -4,7 +4,6 @@ use mir.Facts.{to_z-of_z}
 use borrow.Author.Rules.{sfits_of}
 use Rattle.clock_time.specs.Lists.{ascii}
 use Rattle.decimal.specs.Decimal.{digits}
-use Rattle.decimal.proofs.PairLaws.{first_byte, second_byte}
 use Rattle.layout.specs.Text.{clock_digits}
 use Rattle.listing_lines.specs.Line.{line_with}
 use Rattle.listing_lines.proofs.LineLaws.{line_parts}
@@ -16,5 +15,5 @@ returns c =
     let offset_fits : SFits w16 c.args.t.utc_offset =
     search sfits_of in
     let zone = rw (to_z-of_z offset_fits) at c.offset_text-zone.ensures in
-    simp (c.clock_digits-d.ensures, c.pair-century.ensures, first_byte, second_byte)
+    simp (c.clock_digits-d.ensures, c.two_digits-century.ensures, c.from.ensures)
     (line_parts c.args.t zone c.flags_text-flags.ensures)

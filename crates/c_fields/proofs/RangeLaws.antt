@@ -1,12 +1,14 @@
 -- Laws of numbers in ranges: what fits, place by place and step by step.
 use Prim.Native.Nat.{ℕ, zero, suc, ◌≤◌, ◌<◌}
 use native.Mathlib.Omega.{arith}
-use mathlib.Core.Path.{◌≡◌, refl, sym, ◌∙◌}
+use mathlib.Core.Path.{◌≡◌, refl, sym, ap, ◌∙◌}
 use mathlib.Core.Logic.{◌⊎◌, inl, inr}
 use mathlib.Core.Bool.{Bool, true, false, ◌&&◌, false≢true, and_assoc, and-true, and-false}
 use mathlib.Core.List.{List, [], ◌∷◌, ◌++◌, map}
 use lib.Dec.{eqb}
-use lib.ListN.{length, get_or}
+use lib.ListN.{length, get_or, take}
+use lib.Seq.{length-take-le}
+use native.Mathlib.Nat.{le_refl}
 use lib.IntN.{ℤ}
 use Rattle.clock_time.specs.Errors.{accepted, refused}
 use Rattle.clock_time.proofs.Tests.{both}
@@ -33,15 +35,26 @@ fits_first (r ∷ rs) qs (x ∷ z) h =
     let w = both (within r x) (fits (rs ++ qs) z) h in simp (w.0, fits_first rs qs z w.1)
 
 -- ---- the test in steps
+fits_take : (ranges : List Ends) (z : List ℤ)
+    → fits (map range_of ranges) (take (length ranges) z) ≡ fits (map range_of ranges) z
+unfolding fits
+fits_take [] z = refl
+fits_take (r ∷ ranges) [] = refl
+fits_take (r ∷ ranges) (x ∷ z) = ap (λ (t : Bool). within (range_of r) x && t) (fits_take ranges z)
+
 -- as many numbers are left as ranges at least, and all fit exactly if those passed did and those left do
 pub record Left (ranges : List Ends) (z : List ℤ) (all : Bool) (rs : List Ends) (xs : List ℤ) : Type 0 where
   pub enough : length rs ≤ length xs
   pub test : all && fits (map range_of rs) xs ≡ fits (map range_of ranges) z
 
 module _ (ranges : List Ends) (z : List ℤ) where
-  pub left_first : (rs : List Ends) (xs : List ℤ) → length ranges ≤ length z → rs ≡ ranges → xs ≡ z
-      → Left ranges z true rs xs
-  left_first rs xs h e k = record { enough = rw (e, k) h; test = rw (e, k) }
+  pub left_first : (rs : List Ends) (xs : List ℤ) → length ranges ≤ length z → rs ≡ ranges
+      → xs ≡ take (length ranges) z → Left ranges z true rs xs
+  left_first rs xs h e k =
+      record {
+        enough = rw (e, k, length-take-le (length ranges) z h) (le_refl (length ranges));
+        test = rw (e, k) (fits_take ranges z);
+      }
 
   pub left_more : (all : Bool) (rs' rs : List Ends) (xs' xs : List ℤ) (r : Ends) (x : ℤ)
       → Left ranges z all rs' xs' → rs' ≡ r ∷ rs → xs' ≡ x ∷ xs → Left ranges z (all && within (range_of r) x) rs xs

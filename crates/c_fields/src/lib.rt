@@ -69,7 +69,7 @@ fn are_within(ends: &[Ends], z: &[i32]) -> bool
         return false;
     }
     let mut all = true;
-    for (places, x) in ends.iter().zip(z) {
+    for (places, x) in ends.iter().zip(&z[..ends.len()]) {
         all &= places.hold(*x);
     }
     all

@@ -1,12 +1,11 @@
 -- Laws of readings as numbers, and of putting them into lent memory.
-use Prim.Native.Nat.{◌^◌, ◌+◌, ◌-◌, ◌≤◌, ◌<◌}
+use Prim.Native.Nat.{ℕ, ◌^◌, ◌≤◌, ◌<◌}
 use native.Mathlib.Omega.{arith}
 use mathlib.Core.Path.{◌≡◌, refl, ◌∙◌}
 use mathlib.Core.Bool.{Bool, true, false}
-use mathlib.Core.List.{List, ◌++◌, append_assoc}
-use lib.ListN.{length, drop, length-append}
-use lib.Seq.{take_at, drop_at, drop-drop}
-use borrow.Rule.Slice.PartMut.{put_mid}
+use mathlib.Core.List.{List, [], ◌∷◌, ◌++◌}
+use lib.ListN.{length, get_or, take, drop}
+use lib.Seq.{length-take-le}
 use lib.IntN.{ℤ, pos}
 use lib.Signed.{mag}
 use mir.Syntax.{Width}
@@ -43,27 +42,25 @@ module _ (numbers lent : List ℤ) where
   unfolding put_numbers
   put_room h x e = simp (le-ltb _ _ h, e)
 
--- ---- a clock time's numbers, and more after them
-time_length : (t : ClockTime) → length (time_numbers t) ≡ 14
-unfolding time_numbers
-time_length t = refl
+-- ---- three numbers
+pub three : (more : List ℤ) → length more ≡ 3 → get_or more 0 (pos 0) ∷ get_or more 1 (pos 0) ∷ get_or more 2 (pos 0) ∷ [] ≡ more
+three [] e = absurd (omega (arith, e))
+three (a ∷ []) e = absurd (omega (arith, e))
+three (a ∷ b ∷ []) e = absurd (omega (arith, e))
+three (a ∷ b ∷ c ∷ []) e = refl
+three (a ∷ b ∷ c ∷ d ∷ more) e = absurd (omega (arith, e))
 
-module _ (t : ClockTime) (more lent : List ℤ) where
-  pub time_no_room : length lent < 14 + length more → exit (refused 20) lent ≡ put_numbers (time_numbers t ++ more) lent
-  time_no_room h = put_no_room _ lent (simp (length-append, time_length t) h)
+-- ---- the first of a clock time's numbers and three more
+module _ (t : ClockTime) (more lent : List ℤ) (count : ℕ) (long : length more ≡ 3) (few : count ≤ 17) where
+  first_long : length (take count (time_numbers t ++ more)) ≡ count
+  unfolding time_numbers
+  first_long = length-take-le count (time_numbers t ++ more) (simp long (omega arith))
 
-  pub time_room : 14 + length more ≤ length lent
-      → exit (accepted tt) (put_mid 14 (14 + length more - 14) (time_numbers t ++ drop 14 lent) more)
-      ≡ put_numbers (time_numbers t ++ more) lent
-  time_room h =
-      let k : 14 + length more - 14 ≡ length more = omega arith in
-      put_room _ lent (simp (length-append, time_length t) h) _
-      (rw (
-        k,
-        take_at (time_numbers t) (drop 14 lent) 14 (time_length t),
-        drop_at (time_numbers t) (drop 14 lent) 14 (time_length t),
-        drop-drop (length more) 14 lent,
-        length-append,
-        time_length t,
-        append_assoc,
-      ))
+  pub first_no_room : length lent < count
+      → exit (refused 20) lent ≡ put_numbers (take count (time_numbers t ++ more)) lent
+  first_no_room h = put_no_room _ lent (rw first_long h)
+
+  pub first_room : count ≤ length lent
+      → exit (accepted tt) (take count (time_numbers t ++ more) ++ drop count lent)
+      ≡ put_numbers (take count (time_numbers t ++ more)) lent
+  first_room h = put_room _ lent (rw first_long h) _ (rw first_long)

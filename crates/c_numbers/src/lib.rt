@@ -1,11 +1,11 @@
 // Readings as numbers in lent memory.
 #![tactic(auto)]
 
-ghost use Rattle.std.specs.Prelude.{◌≡◌, ◌++◌, List, ℤ};
+ghost use Rattle.std.specs.Prelude.{◌≡◌, ◌++◌, ◌≤◌, List, ℤ, take};
 ghost use Rattle.clock_time.specs.Exit.{exit};
 ghost use Rattle.clock_time.specs.Reading.{answer_of};
 ghost use Rattle.c_numbers.specs.Numbers.{time_numbers, gps_numbers, minute_numbers, trimble_numbers};
-ghost use Rattle.c_numbers.specs.Numbers.{put_numbers, put_answer};
+ghost use Rattle.c_numbers.specs.Numbers.{gps_count, put_numbers, put_answer};
 
 use clock_time::{ClockTime, Error};
 use dcf77::MinuteTime;
@@ -34,7 +34,7 @@ impl Numbers for ClockTime {
     ghost numbers = { time_numbers };
 
     fn put(self, fields: &mut [i32]) -> Result<(), Error> {
-        put_time_and(self, &[], fields)
+        put_first(TIME_FIELDS, self, [0; 3], fields)
     }
 }
 
@@ -44,7 +44,7 @@ impl Numbers for GpsTime {
     fn put(self, fields: &mut [i32]) -> Result<(), Error> {
         let p = self.position;
         let more = [p.latitude, p.longitude, i32::from(p.height)];
-        put_time_and(self.time, &more, fields)
+        put_first(GPS_FIELDS, self.time, more, fields)
     }
 }
 
@@ -53,8 +53,8 @@ impl Numbers for MinuteTime {
 
     fn put(self, fields: &mut [i32]) -> Result<(), Error> {
         let d = self.detail;
-        let more = [i32::from(d.first_marks), i32::from(d.sixty)];
-        put_time_and(self.time, &more, fields)
+        let more = [i32::from(d.first_marks), i32::from(d.sixty), 0];
+        put_first(MINUTE_FIELDS, self.time, more, fields)
     }
 }
 
@@ -62,13 +62,16 @@ impl Numbers for TrimbleTime {
     ghost numbers = { trimble_numbers };
 
     fn put(self, fields: &mut [i32]) -> Result<(), Error> {
-        put_time_and(self.time, &[i32::from(self.milliseconds)], fields)
+        let more = [i32::from(self.milliseconds), 0, 0];
+        put_first(TRIMBLE_FIELDS, self.time, more, fields)
     }
 }
 
-fn time_numbers(t: ClockTime) -> [i32; TIME_FIELDS]
-    ensures { result ≡ time_numbers t }
+// The numbers of a clock time, and three more.
+fn numbers_with(t: ClockTime, more: [i32; 3]) -> [i32; GPS_FIELDS]
+    ensures { result ≡ time_numbers t ++ more }
 {
+    let [a, b, c] = more;
     [
         i32::from(t.year),
         i32::from(t.month),
@@ -84,19 +87,24 @@ fn time_numbers(t: ClockTime) -> [i32; TIME_FIELDS]
         i32::from(t.dst_change_announced),
         i32::from(t.leap_second_announced),
         i32::from(t.alternate_antenna),
+        a,
+        b,
+        c,
     ]
 }
 
-// Puts the numbers of a clock time, and more after them, in the place of the first of those lent.
-fn put_time_and(t: ClockTime, more: &[i32], fields: &mut [i32]) -> Result<(), Error>
-    ensures { exit (answer_of result) fields.new ≡ put_numbers (time_numbers t ++ more.now) fields.old }
+// Puts the first `count` of a clock time's numbers and three more in the place of the first of those lent. One copy of
+// an array is quicker than one of the time's numbers and another of those after them.
+fn put_first(count: usize, t: ClockTime, more: [i32; 3], fields: &mut [i32]) -> Result<(), Error>
+    requires { count ≤ gps_count }
+    ensures { exit (answer_of result) fields.new
+        ≡ put_numbers (take count (time_numbers t ++ more)) fields.old }
 {
-    let count = TIME_FIELDS + more.len();
     if fields.len() < count {
         return Err(Error::LentMemory);
     }
-    fields[..TIME_FIELDS].copy_from_slice(&time_numbers(t));
-    fields[TIME_FIELDS..count].copy_from_slice(more);
+    let numbers = numbers_with(t, more);
+    fields[..count].copy_from_slice(&numbers[..count]);
     Ok(())
 }
 

@@ -43,7 +43,8 @@ fn weeks(days: u32) -> u32
     days * 293 / 2048
 }
 
-// The weekday, 1 Monday to 7 Sunday; 0 if the date is not one of 1970 to 2069. Each 365 days move it on by one.
+// The weekday, 1 Monday to 7 Sunday; 0 if the date is not one of 1970 to 2069. Each 365 days move it on by one. It is 0
+// and no Option, as in the definition `weekday_or_zero`: `with_weekday` puts it into a clock time of any date.
 pub fn weekday_or_zero(date: Date) -> u8
     ensures { result ≡ weekday_or_zero date.year date.month date.day }
 {

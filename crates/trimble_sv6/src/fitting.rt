@@ -60,13 +60,21 @@ impl<'a> Fitting<'a> {
     }
 
     // Reads the clock time of a string whose sum and validity hold. Refuses with NoSuchDate (5) if the date is not one
-    // of 1970 to 2069, then with NoSuchTime (6).
+    // of 1970 to 2069, then with NoSuchTime (6). Just such a date has no weekday, so that one test serves both. It is
+    // not `layout::check_without_weekday`: that takes more instructions here, and more in ELV's reader if it has a
+    // second caller, since it is no longer inlined there.
     fn read_clock(self) -> Result<TrimbleTime, Error>
         ensures { answer_of result ≡ read_clock self.entry.s.now }
     {
-        let time = layout::check_without_weekday(self.sent_fields())?;
+        let t = calendar::date::with_weekday(self.sent_fields());
+        if t.weekday == 0 {
+            return Err(Error::NoSuchDate);
+        }
+        if !calendar::time_of_day::time_exists(t.hour, t.minute, t.second, t.utc_offset) {
+            return Err(Error::NoSuchTime);
+        }
         Ok(TrimbleTime {
-            time,
+            time: t,
             milliseconds: self.milliseconds(),
         })
     }

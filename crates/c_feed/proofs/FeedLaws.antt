@@ -3,10 +3,10 @@ use Prim.Native.Nat.{ℕ, suc, ◌<◌, ◌≤◌}
 use native.Mathlib.Omega.{arith}
 use mathlib.Core.Path.{◌≡◌, refl, sym, ap, subst, ◌∙◌}
 use mathlib.Core.Bool.{Bool, true, false, cond, ◌||◌}
-use mathlib.Core.List.{List, [], ◌∷◌, ◌++◌, append_assoc, append-nil}
+use mathlib.Core.List.{List, [], ◌∷◌, ◌++◌, append_assoc}
 use lib.Dec.{eqb, ltb}
 use lib.ListN.{length, get_or, take, drop, set, length-append, length-set}
-use lib.Seq.{append_snoc, drop-cons, drop-length, set_at, take-length}
+use lib.Seq.{append_snoc, drop-cons, set_at}
 use borrow.Author.Tests.{le-ltb}
 use Rattle.framing.specs.declared.Mode.{Mode}
 use Rattle.framing.specs.declared.Mode.TheVariants.{Outside, Inside, Overlong}
@@ -94,13 +94,6 @@ pub fed_small : (state : List ℕ) (f : Framer) (s : List ℕ) (r : FeedResult) 
 unfolding framer_in
 fed_small state f s r h e k =
     subst (λ (x : FeedResult). Small x.framer x.event) (sym k) (feed_small s f (rw e (omega arith)))
-
--- ---- bytes written whole, and to the front
-pub copied_front : (x s d : List ℕ) → x ≡ take (length s) s ++ drop (length s) d → x ≡ s ++ drop (length s) d
-copied_front x s d e = e ∙ rw (take-length s)
-
-pub copied_whole : (x s d : List ℕ) → length s ≡ length d → x ≡ take (length s) s ++ drop (length s) d → x ≡ s
-copied_whole x s d h e = copied_front x s d e ∙ rw (h, drop-length d, append-nil s)
 
 -- ---- what is stored
 two_after : (n : ℕ) (bytes d : List ℕ) (x y : ℕ) → length bytes ≡ n → suc n < length d

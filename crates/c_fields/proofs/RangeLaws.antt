@@ -13,7 +13,7 @@ use lib.IntN.{ℤ}
 use Rattle.clock_time.specs.Errors.{accepted, refused}
 use Rattle.clock_time.proofs.Tests.{both}
 use Rattle.clock_time.specs.FieldRanges.{Range, up_to, within}
-use Rattle.c_fields.specs.declared.Ends.{Ends}
+use Rattle.c_fields.specs.declared.Place.{Place}
 use Rattle.c_fields.specs.Ranges.{range_of, fits, at}
 use Rattle.c_fields.specs.Ranges.{fits_all, numbered}
 
@@ -35,7 +35,7 @@ fits_first (r ∷ rs) qs (x ∷ z) h =
     let w = both (within r x) (fits (rs ++ qs) z) h in simp (w.0, fits_first rs qs z w.1)
 
 -- ---- the test in steps
-fits_take : (ranges : List Ends) (z : List ℤ)
+fits_take : (ranges : List Place) (z : List ℤ)
     → fits (map range_of ranges) (take (length ranges) z) ≡ fits (map range_of ranges) z
 unfolding fits
 fits_take [] z = refl
@@ -43,12 +43,12 @@ fits_take (r ∷ ranges) [] = refl
 fits_take (r ∷ ranges) (x ∷ z) = ap (λ (t : Bool). within (range_of r) x && t) (fits_take ranges z)
 
 -- as many numbers are left as ranges at least, and all fit exactly if those passed did and those left do
-pub record Left (ranges : List Ends) (z : List ℤ) (all : Bool) (rs : List Ends) (xs : List ℤ) : Type 0 where
+pub record Left (ranges : List Place) (z : List ℤ) (all : Bool) (rs : List Place) (xs : List ℤ) : Type 0 where
   pub enough : length rs ≤ length xs
   pub test : all && fits (map range_of rs) xs ≡ fits (map range_of ranges) z
 
-module _ (ranges : List Ends) (z : List ℤ) where
-  pub left_first : (rs : List Ends) (xs : List ℤ) → length ranges ≤ length z → rs ≡ ranges
+module _ (ranges : List Place) (z : List ℤ) where
+  pub left_first : (rs : List Place) (xs : List ℤ) → length ranges ≤ length z → rs ≡ ranges
       → xs ≡ take (length ranges) z → Left ranges z true rs xs
   left_first rs xs h e k =
       record {
@@ -56,7 +56,7 @@ module _ (ranges : List Ends) (z : List ℤ) where
         test = rw (e, k) (fits_take ranges z);
       }
 
-  pub left_more : (all : Bool) (rs' rs : List Ends) (xs' xs : List ℤ) (r : Ends) (x : ℤ)
+  pub left_more : (all : Bool) (rs' rs : List Place) (xs' xs : List ℤ) (r : Place) (x : ℤ)
       → Left ranges z all rs' xs' → rs' ≡ r ∷ rs → xs' ≡ x ∷ xs → Left ranges z (all && within (range_of r) x) rs xs
   unfolding fits
   left_more all rs' rs xs' xs r x h e k =
@@ -64,14 +64,14 @@ module _ (ranges : List Ends) (z : List ℤ) where
       let test = rw (e, k) at h.test in
       record { enough = omega arith; test = and_assoc all _ _ ∙ test }
 
-  pub left_none : (all : Bool) (rs : List Ends) (xs : List ℤ) → Left ranges z all rs xs → (rs ≡ []) ⊎ (xs ≡ [])
+  pub left_none : (all : Bool) (rs : List Place) (xs : List ℤ) → Left ranges z all rs xs → (rs ≡ []) ⊎ (xs ≡ [])
       → all ≡ fits (map range_of ranges) z
   unfolding fits
   left_none all rs xs h (inl e) = sym (and-true all) ∙ rw e at h.test
   left_none all [] xs h (inr e) = sym (and-true all) ∙ h.test
   left_none all (r ∷ rs) xs h (inr e) = let few : suc (length rs) ≤ 0 = rw e at h.enough in absurd (omega arith)
 
-pub fits_short : (ranges : List Ends) (z : List ℤ) → length z < length ranges
+pub fits_short : (ranges : List Place) (z : List ℤ) → length z < length ranges
     → fits (map range_of ranges) z ≡ false
 unfolding fits
 fits_short [] z h = absurd (omega arith)

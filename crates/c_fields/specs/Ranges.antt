@@ -1,9 +1,10 @@
 -- The numbers that each place of an array may hold, and the reading that they stand for.
-use Rattle.std.specs.Prelude.{ℕ, Bool, true, false, not, ◌&&◌, List, [], ◌∷◌, ◌++◌, eqb, length, get_or, ℤ, pos, nat_abs}
+use Rattle.std.specs.Prelude.{ℕ, Bool, true, false, not, ◌&&◌, List, [], ◌∷◌, ◌++◌, eqb, length, get_or}
+use Rattle.std.specs.Prelude.{ℤ, pos, nat_abs}
 use Rattle.clock_time.specs.Errors.{Answer, given, checked}
 use Rattle.clock_time.specs.FieldRanges.{Range, range, within, up_to, time_ranges, gps_ranges}
 use Rattle.clock_time.specs.Same.{eq_ℤ}
-use Rattle.c_fields.specs.declared.Ends.{Ends}
+use Rattle.c_fields.specs.declared.Place.{Place}
 use Rattle.clock_time.specs.declared.ClockTime.{ClockTime}
 use Rattle.meinberg_gps.specs.declared.GpsTime.{GpsTime}
 use Rattle.dcf77.specs.declared.MinuteTime.{MinuteTime}
@@ -13,9 +14,9 @@ use Rattle.dcf77.specs.declared.MinuteTime.{MinuteTime}
 unfoldable pub minute_ranges : List Range
 minute_ranges = time_ranges ++ (up_to 65535 ∷ up_to 1 ∷ [])
 
--- the range with these ends
-abbrev pub range_of : Ends → Range
-range_of e = range e.least e.most
+-- the range of a place, as the code has it
+abbrev pub range_of : Place → Range
+range_of p = range p.least p.most
 
 -- there is a number for each range, and it is in it; numbers after those play no part
 unfoldable pub fits : List Range → List ℤ → Bool

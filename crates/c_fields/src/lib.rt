@@ -12,74 +12,74 @@ use clock_time::{ClockTime, Error, MinuteDetail, Position};
 use dcf77::MinuteTime;
 use meinberg_gps::GpsTime;
 
-// The least and the most that a place may hold.
+// A place in C's array of numbers: the least and the most that it may hold.
 #[derive(Clone, Copy)]
-struct Ends {
+struct Place {
     least: i32,
     most: i32,
 }
 
-impl Ends {
-    fn hold(self, x: i32) -> bool
+impl Place {
+    fn holds(self, x: i32) -> bool
         ensures { result ≡ within (range_of self) x }
     {
         (self.least <= x) & (x <= self.most)
     }
 }
 
-const WORD: Ends = Ends {
+const WORD: Place = Place {
     least: 0,
     most: 65535,
 };
 
-const BYTE: Ends = Ends {
+const BYTE: Place = Place {
     least: 0,
     most: 255,
 };
 
-const FLAG: Ends = Ends { least: 0, most: 1 };
+const FLAG: Place = Place { least: 0, most: 1 };
 
-const OFFSET: Ends = Ends {
+const OFFSET: Place = Place {
     least: -32768,
     most: 32767,
 };
 
-const ANY: Ends = Ends {
+const ANY: Place = Place {
     least: -2147483648,
     most: 2147483647,
 };
 
-// Those of a GPS string's places, of which the first 14 are a clock time's.
-const GPS_ENDS: [Ends; GPS_FIELDS] = [
+// The places of a GPS string's numbers, of which the first 14 are a clock time's.
+const GPS_PLACES: [Place; GPS_FIELDS] = [
     WORD, BYTE, BYTE, BYTE, BYTE, BYTE, BYTE, OFFSET, FLAG, FLAG, FLAG, FLAG, FLAG, FLAG, ANY, ANY,
     WORD,
 ];
 
-// Those of a minute's places.
-const MINUTE_ENDS: [Ends; MINUTE_FIELDS] = [
+// The places of a minute's numbers.
+const MINUTE_PLACES: [Place; MINUTE_FIELDS] = [
     WORD, BYTE, BYTE, BYTE, BYTE, BYTE, BYTE, OFFSET, FLAG, FLAG, FLAG, FLAG, FLAG, FLAG, WORD,
     FLAG,
 ];
 
-// Whether the first numbers are in the ranges with these ends. It looks at all, which is quicker than to stop early.
-fn are_within(ends: &[Ends], z: &[i32]) -> bool
-    ensures { result ≡ fits (map range_of ends.now) z.now }
+// Whether the first numbers are in the ranges of these places. It looks at all, which is quicker than to stop early.
+fn are_within(places: &[Place], z: &[i32]) -> bool
+    ensures { result ≡ fits (map range_of places.now) z.now }
 {
-    if z.len() < ends.len() {
+    if z.len() < places.len() {
         return false;
     }
     let mut all = true;
-    for (places, x) in ends.iter().zip(&z[..ends.len()]) {
-        all &= places.hold(*x);
+    for (place, x) in places.iter().zip(&z[..places.len()]) {
+        all &= place.holds(*x);
     }
     all
 }
 
-// The same if there are no more numbers than ranges.
-fn are_all_within(ends: &[Ends], z: &[i32]) -> bool
-    ensures { result ≡ fits_all (map range_of ends.now) z.now }
+// The same if there are no more numbers than places.
+fn are_all_within(places: &[Place], z: &[i32]) -> bool
+    ensures { result ≡ fits_all (map range_of places.now) z.now }
 {
-    (z.len() == ends.len()) & are_within(ends, z)
+    (z.len() == places.len()) & are_within(places, z)
 }
 
 // What a number stands for in a field of this type.
@@ -202,7 +202,7 @@ fn minute_from(z: &[i32]) -> MinuteTime
 pub fn first_time_of(z: &[i32]) -> Result<ClockTime, Error>
     ensures { answer_of result ≡ first_time_of z.now }
 {
-    if are_within(&GPS_ENDS[..TIME_FIELDS], z) {
+    if are_within(&GPS_PLACES[..TIME_FIELDS], z) {
         return Ok(time_from(z));
     }
     Err(Error::Unrepresentable)
@@ -226,7 +226,7 @@ impl FromNumbers for ClockTime {
     ghost from = { time_from };
 
     fn from_numbers(z: &[i32]) -> Result<ClockTime, Error> {
-        if are_all_within(&GPS_ENDS[..TIME_FIELDS], z) {
+        if are_all_within(&GPS_PLACES[..TIME_FIELDS], z) {
             return Ok(time_from(z));
         }
         Err(Error::Unrepresentable)
@@ -239,7 +239,7 @@ impl FromNumbers for GpsTime {
     ghost from = { gps_from };
 
     fn from_numbers(z: &[i32]) -> Result<GpsTime, Error> {
-        if are_all_within(&GPS_ENDS, z) {
+        if are_all_within(&GPS_PLACES, z) {
             return Ok(gps_from(z));
         }
         Err(Error::Unrepresentable)
@@ -252,7 +252,7 @@ impl FromNumbers for MinuteTime {
     ghost from = { minute_from };
 
     fn from_numbers(z: &[i32]) -> Result<MinuteTime, Error> {
-        if are_all_within(&MINUTE_ENDS, z) {
+        if are_all_within(&MINUTE_PLACES, z) {
             return Ok(minute_from(z));
         }
         Err(Error::Unrepresentable)

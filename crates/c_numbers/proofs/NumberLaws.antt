@@ -43,7 +43,8 @@ module _ (numbers lent : List ℤ) where
   put_room h x e = simp (le-ltb _ _ h, e)
 
 -- ---- three numbers
-pub three : (more : List ℤ) → length more ≡ 3 → get_or more 0 (pos 0) ∷ get_or more 1 (pos 0) ∷ get_or more 2 (pos 0) ∷ [] ≡ more
+pub three : (more : List ℤ) → length more ≡ 3
+    → get_or more 0 (pos 0) ∷ get_or more 1 (pos 0) ∷ get_or more 2 (pos 0) ∷ [] ≡ more
 three [] e = absurd (omega (arith, e))
 three (a ∷ []) e = absurd (omega (arith, e))
 three (a ∷ b ∷ []) e = absurd (omega (arith, e))

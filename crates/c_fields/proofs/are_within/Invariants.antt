@@ -2,5 +2,5 @@
 use Rattle.c_fields.proofs.RangeLaws.{Left}
 use Rattle.c_fields.proofs.are_within.Given as goal
 
-abbrev pub invariant-loop-places : goal.invariant-loop-places
-invariant-loop-places l = Left l.ends l.z l.all l.places-iterator.a.rest.now l.places-iterator.b.rest.now
+abbrev pub invariant-loop-place : goal.invariant-loop-place
+invariant-loop-place l = Left l.places l.z l.all l.place-iterator.a.rest.now l.place-iterator.b.rest.now

@@ -20,7 +20,9 @@ returns-in_ok-from_numbers-in-Standard c =
 pub returns-in_err-from_numbers-in-Pzf : goal.returns-in_err-from_numbers-in-Pzf
 unfolding write_as
 returns-in_err-from_numbers-in-Pzf c =
-    let refused : c.from_residual-in_err-from_numbers-in-Pzf.result ≡ Err c.in_err-from_numbers-in-Pzf.field-0.0 = search rules in
+    let refused :
+    c.from_residual-in_err-from_numbers-in-Pzf.result ≡ Err c.in_err-from_numbers-in-Pzf.field-0.0 =
+    search rules in
     rw (c.in-Pzf.is, refused, ← c.in_err-from_numbers-in-Pzf.ensures)
 
 pub returns-in_ok-from_numbers-in-Pzf : goal.returns-in_ok-from_numbers-in-Pzf
@@ -31,7 +33,9 @@ returns-in_ok-from_numbers-in-Pzf c =
 pub returns-in_err-from_numbers-in-Gps : goal.returns-in_err-from_numbers-in-Gps
 unfolding write_as
 returns-in_err-from_numbers-in-Gps c =
-    let refused : c.from_residual-in_err-from_numbers-in-Gps.result ≡ Err c.in_err-from_numbers-in-Gps.field-0.0 = search rules in
+    let refused :
+    c.from_residual-in_err-from_numbers-in-Gps.result ≡ Err c.in_err-from_numbers-in-Gps.field-0.0 =
+    search rules in
     rw (c.in-Gps.is, refused, ← c.in_err-from_numbers-in-Gps.ensures)
 
 pub returns-in_ok-from_numbers-in-Gps : goal.returns-in_ok-from_numbers-in-Gps
@@ -42,7 +46,9 @@ returns-in_ok-from_numbers-in-Gps c =
 pub returns-in_err-from_numbers-in-Elv : goal.returns-in_err-from_numbers-in-Elv
 unfolding write_as
 returns-in_err-from_numbers-in-Elv c =
-    let refused : c.from_residual-in_err-from_numbers-in-Elv.result ≡ Err c.in_err-from_numbers-in-Elv.field-0.0 = search rules in
+    let refused :
+    c.from_residual-in_err-from_numbers-in-Elv.result ≡ Err c.in_err-from_numbers-in-Elv.field-0.0 =
+    search rules in
     rw (c.in-Elv.is, refused, ← c.in_err-from_numbers-in-Elv.ensures)
 
 pub returns-in_ok-from_numbers-in-Elv : goal.returns-in_ok-from_numbers-in-Elv

@@ -19,19 +19,23 @@ returns-in_err-try_from c =
 pub returns-in-Standard : goal.returns-in-Standard
 unfolding read_into read_numbered read_as read_standard
 returns-in-Standard c =
-    rw (← c.in_ok-try_from.ensures, c.in-Standard.is, ← c.read_standard.ensures, ← (shaped_put _ without_position _)) c.put_answer.ensures
+    rw (← c.in_ok-try_from.ensures, c.in-Standard.is, ← c.read_standard.ensures, ← (shaped_put _ without_position _))
+    c.put_answer.ensures
 
 pub returns-in-Pzf : goal.returns-in-Pzf
 unfolding read_into read_numbered read_as read_pzf
 returns-in-Pzf c =
-    rw (← c.in_ok-try_from.ensures, c.in-Pzf.is, ← c.read_pzf.ensures, ← (shaped_put _ without_position _)) c.put_answer-in-Pzf.ensures
+    rw (← c.in_ok-try_from.ensures, c.in-Pzf.is, ← c.read_pzf.ensures, ← (shaped_put _ without_position _))
+    c.put_answer-in-Pzf.ensures
 
 pub returns-in-Gps : goal.returns-in-Gps
 unfolding read_into read_numbered read_as read_gps written_gps
 returns-in-Gps c =
-    rw (← c.in_ok-try_from.ensures, c.in-Gps.is, ← c.read_gps.ensures, ← (shaped_put _ with_position _)) c.put_answer-in-Gps.ensures
+    rw (← c.in_ok-try_from.ensures, c.in-Gps.is, ← c.read_gps.ensures, ← (shaped_put _ with_position _))
+    c.put_answer-in-Gps.ensures
 
 pub returns-in-Elv : goal.returns-in-Elv
 unfolding read_into read_numbered read_as read_elv
 returns-in-Elv c =
-    rw (← c.in_ok-try_from.ensures, c.in-Elv.is, ← c.read_elv.ensures, ← (shaped_put _ without_position _)) c.put_answer-in-Elv.ensures
+    rw (← c.in_ok-try_from.ensures, c.in-Elv.is, ← c.read_elv.ensures, ← (shaped_put _ without_position _))
+    c.put_answer-in-Elv.ensures

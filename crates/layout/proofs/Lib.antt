@@ -1,5 +1,4 @@
 -- Laws of the definitions, and the main results.
-pub mod ClockLaws
 pub mod LayoutLaws
 pub mod PlacesLaws
 pub mod PartLaws

@@ -17,6 +17,7 @@ use gregorian::{FIRST_YEAR, LAST_YEAR};
 use place::Place;
 
 // Whether a byte at a place of a pattern offends with this error.
+#[tactic(auto, using(crate::proofs::PlacesLaws::same_error, crate::proofs::PlacesLaws::offence_is))]
 fn offends(error: Error, p: u8, b: u8) -> bool
     ensures { result ≡ nat_eq (offence (pattern_place p) b) (error_number error) }
 {
@@ -34,6 +35,7 @@ fn is_found(error: Error, pattern: &[u8], s: &[u8]) -> bool
 
 // The error of a string that does not fit the layout of a pattern: the first that holds of Length (1), FixedByte (2),
 // NotDigit (3) and FlagLetter (4).
+#[tactic(auto, using(crate::proofs::LayoutLaws::length_patterned), unfolding(crate::specs::Layout::layout_error))]
 pub fn layout_error(pattern: &[u8], s: &[u8]) -> Error
     ensures { error_number result ≡ layout_error (patterned pattern.now) s.now }
 {
@@ -51,6 +53,7 @@ pub fn layout_error(pattern: &[u8], s: &[u8]) -> Error
 
 // The clock time. Refuses with the first that holds of NoSuchDate (5), NoSuchTime (6) and Weekday (7); `mismatch` is a
 // further reason for NoSuchTime.
+#[tactic(auto, unfolding(crate::specs::Text::supported_day, crate::specs::Text::clock_checks))]
 pub fn check_clock(t: ClockTime, mismatch: bool) -> Result<ClockTime, Error>
     ensures { answer_of result ≡ checked (clock_checks (supported_day t) t mismatch) t }
 {
@@ -106,6 +109,7 @@ pub struct ClockDigits {
 }
 
 // The last two digits of year, month, day, hour, minute and second.
+#[tactic(auto, unfolding(crate::specs::Text::clock_digits))]
 pub fn clock_digits(t: ClockTime) -> ClockDigits
     ensures { result ≡ clock_digits t }
 {

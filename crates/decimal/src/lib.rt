@@ -5,6 +5,7 @@ ghost use Rattle.std.specs.Prelude.{◌≡◌};
 ghost use Rattle.decimal.specs.Decimal.{is_digit, digits, digit_pair};
 
 // Whether a byte is one of `0` to `9`.
+#[tactic(auto, unfolding(crate::specs::Decimal::is_digit))]
 pub fn is_digit(b: u8) -> bool
     ensures { result ≡ is_digit b }
 {
@@ -12,6 +13,7 @@ pub fn is_digit(b: u8) -> bool
 }
 
 // The last two digits of a number. As one product, so that the compiler stores both at once.
+#[tactic(auto, using(crate::proofs::PairLaws::pair_bytes), unfolding(crate::specs::Decimal::digits))]
 pub fn two_digits(v: u32) -> [u8; 2]
     ensures { result ≡ digits 2 v }
 {

@@ -2,23 +2,21 @@
 use Prim.Native.Nat.{ℕ, zero, suc, ◌+◌, ◌%◌, ◌^◌, ◌≤◌, ◌<◌}
 use native.Mathlib.Nat.{zero-add, add-zero}
 use native.Mathlib.Decide.{dec_lt}
-use native.Mathlib.Numerals.{add-one}
 use native.Mathlib.Omega.{arith}
 use mathlib.Core.Path.{◌≡◌, refl, sym, ap, ◌∙◌}
 use mathlib.Core.Bool.{Bool, true, false, cond, ◌&&◌, ◌||◌, true≢false}
 use mathlib.Core.List.{List, [], ◌∷◌}
 use mathlib.Core.Logic.{◌⊎◌, inl, inr, ⊎_elim}
 use lib.Dec.{eqb, ltb, lit<}
-use lib.ListN.{length, get_or, drop, drop_of_length-le, get_or-eq_default}
-use lib.Seq.{drop-cons}
-use borrow.Author.Tests.{eq-eqb, ne_eqb, eqb-true, eqb-false, lt-ltb, le-ltb, ltb-false}
+use lib.ListN.{length, get_or, get_or-eq_default}
+use borrow.Author.Tests.{ne_eqb, eqb-true, eqb-false, lt-ltb, le-ltb, ltb-false}
 use Rattle.clock_time.proofs.ListsLaws.{length_slice}
 use Rattle.clock_time.proofs.Tests.{both}
 use Rattle.clock_time.specs.Lists.{slice}
 use Rattle.decimal.specs.Decimal.{is_digit, first_non_digit}
 use Rattle.decimal.proofs.DecimalLaws.{value_below}
 use Rattle.layout.specs.Layout.{digit, printable, flag_of, allowed, error_at, offence, fits_from, first}
-use Rattle.layout.specs.Layout.{found, FitsLayout, number, pattern_place, patterned}
+use Rattle.layout.specs.Layout.{found, FitsLayout, number, patterned}
 
 -- ---- one byte
 pub fixed_test : (p b : ℕ) → p < 256 → allowed p b ≡ eqb b p
@@ -38,31 +36,10 @@ flag_test a b h =
       e,
     )
 
--- ---- one place after the other
-module _ (l s : List ℕ) (i : ℕ) (hl : i < length l) (hs : i < length s) where
-  pub first_here : (k : ℕ) → offence (get_or l i 0) (get_or s i 0) ≡ k → first k (drop i l) (drop i s) ≡ 0
-  unfolding first
-  first_here k e = rw (drop-cons l i 0 hl, drop-cons s i 0 hs) (rw (eq-eqb _ _ e))
-
-  pub first_later : (k : ℕ) → (offence (get_or l i 0) (get_or s i 0) ≡ k → ⊥)
-      → first k (drop i l) (drop i s) ≡ suc (first k (drop (i + 1) l) (drop (i + 1) s))
-  unfolding first
-  first_later k e = rw (add-one, drop-cons l i 0 hl, drop-cons s i 0 hs) (rw (ne_eqb _ _ e))
-
-module _ (l s : List ℕ) (i : ℕ) (h : length l ≤ i) where
-  pub first_end : (k : ℕ) → first k (drop i l) (drop i s) ≡ 0
-  unfolding first
-  first_end k = rw (drop_of_length-le l h)
-
 -- ---- a picture
 pub length_patterned : (l : List ℕ) → length (patterned l) ≡ length l
 length_patterned [] = refl
 length_patterned (p ∷ l) = ap suc (length_patterned l)
-
-pub place_patterned : (l : List ℕ) (i : ℕ) → i < length l → get_or (patterned l) i 0 ≡ pattern_place (get_or l i 0)
-place_patterned [] i h = absurd (omega arith)
-place_patterned (p ∷ l) zero h = refl
-place_patterned (p ∷ l) (suc i) h = place_patterned l i (omega arith)
 
 -- ---- a string that fits
 error_three : (p : ℕ) → (error_at p ≡ 2) ⊎ ((error_at p ≡ 3) ⊎ (error_at p ≡ 4))

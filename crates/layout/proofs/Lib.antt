@@ -1,6 +1,6 @@
 -- Laws of the definitions, and the main results.
-pub mod ClockLaws
 pub mod LayoutLaws
+pub mod PlacesLaws
 pub mod PartLaws
 pub mod PictureLaws
 pub mod SaysLaws

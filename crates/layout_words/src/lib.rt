@@ -26,6 +26,7 @@ pub fn word_at(s: &[u8], at: usize) -> u64
     0
 }
 
+#[tactic(auto, unfolding(crate::specs::Words::by_sample))]
 fn by_sample(p: u8, digit: u8, any: u8, fixed: u8) -> u8
     ensures { result ≡ by_sample digit any fixed p }
 {
@@ -92,6 +93,7 @@ fn pairs_at(s: &[u8], at: usize) -> [u8; 7]
 }
 
 // The numbers of three pairs of digits from a place on, with one byte between two pairs; 0 if there are no eight bytes.
+#[tactic(auto, unfolding(crate::specs::Words::numbers_at, crate::specs::Words::three_numbers))]
 pub fn numbers_at(s: &[u8], at: usize) -> [u8; 3]
     ensures { result ≡ numbers_at at s.now }
 {
@@ -100,6 +102,7 @@ pub fn numbers_at(s: &[u8], at: usize) -> [u8; 3]
 }
 
 // The numbers of four pairs of digits from a place on, one after another; 0 if there are no eight bytes.
+#[tactic(auto, unfolding(crate::specs::Words::four_numbers_at, crate::specs::Words::four_numbers))]
 pub fn four_numbers_at(s: &[u8], at: usize) -> [u8; 4]
     ensures { result ≡ four_numbers_at at s.now }
 {

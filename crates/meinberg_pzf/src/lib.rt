@@ -29,12 +29,14 @@ impl StringFormat<32> for Pzf {
             & layout_words::flags_fit(s, 24, *b"U#*S!AR", 3)
     }
 
+    #[tactic(auto, using(layout::proofs::TextLaws::reading), unfolding(crate::specs::Pzf::pzf))]
     fn read_fitting(s: &[u8; 32]) -> Result<ClockTime, Error> {
         layout::check_clock(fields(s), false)
     }
 }
 
 // The UTC offset that the flags t and x stand for.
+#[tactic(auto, unfolding(crate::specs::Pzf::pzf_offset))]
 pub fn offset_of(utc: bool, summer: bool) -> i16
     ensures { result ≡ pzf_offset utc summer }
 {
@@ -75,6 +77,7 @@ fn fields(s: &[u8; 32]) -> ClockTime
 
 // Reads a Meinberg PZF string. Refuses with the first that holds of Length (1), FixedByte (2), NotDigit (3), FlagLetter
 // (4), NoSuchDate (5), NoSuchTime (6) and Weekday (7).
+#[tactic(auto, unfolding(crate::specs::Pzf::read_pzf))]
 pub fn read_pzf(s: &[u8]) -> Result<ClockTime, Error>
     ensures { answer_of result ≡ read_pzf s.now }
 {

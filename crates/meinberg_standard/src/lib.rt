@@ -4,7 +4,8 @@
 ghost use Rattle.std.specs.Prelude.{◌≡◌};
 ghost use Rattle.clock_time.specs.Reading.{answer_of};
 ghost use Rattle.layout.specs.Layout.{FitsLayout};
-ghost use Rattle.meinberg_standard.specs.Standard.{standard_layout, standard_zone, standard_fields, standard, read_standard};
+ghost use Rattle.meinberg_standard.specs.Standard.{standard_layout, standard_zone, standard_fields, standard};
+ghost use Rattle.meinberg_standard.specs.Standard.{read_standard};
 
 use clock_time::{ClockTime, Error};
 use gregorian::FIRST_YEAR;
@@ -36,12 +37,14 @@ impl StringFormat<32> for Standard {
             & (s[31] == 3)
     }
 
+    #[tactic(auto, using(layout::proofs::TextLaws::reading), unfolding(crate::specs::Standard::standard))]
     fn read_fitting(s: &[u8; 32]) -> Result<ClockTime, Error> {
         layout::check_clock(fields(s), false)
     }
 }
 
 // The UTC offset that the zone letter stands for.
+#[tactic(auto, unfolding(crate::specs::Standard::standard_zone))]
 pub fn zone_offset(letter: u8) -> i16
     ensures { result ≡ standard_zone letter }
 {
@@ -82,6 +85,7 @@ fn fields(s: &[u8; 32]) -> ClockTime
 
 // Reads a Meinberg standard string. Refuses with the first that holds of Length (1), FixedByte (2), NotDigit (3),
 // FlagLetter (4), NoSuchDate (5), NoSuchTime (6) and Weekday (7).
+#[tactic(auto, unfolding(crate::specs::Standard::read_standard))]
 pub fn read_standard(s: &[u8]) -> Result<ClockTime, Error>
     ensures { answer_of result ≡ read_standard s.now }
 {

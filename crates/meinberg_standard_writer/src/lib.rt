@@ -20,6 +20,7 @@ fn zone_letter(offset: i16, summer: bool) -> u8
     b' '
 }
 
+#[tactic(auto, unfolding(meinberg_standard::specs::Standard::announced_letter))]
 fn announced_letter(change: bool, leap: bool) -> u8
     ensures { result ≡ announced_letter change leap }
 {

@@ -5,12 +5,10 @@ use mathlib.Core.Path.{◌≡◌, refl, sym}
 use mathlib.Core.Logic.{◌↔◌, ◌⊎◌, inl, inr, ⊎_elim}
 use mathlib.Core.Bool.{Bool, true, false, cond, not, ◌&&◌, ◌||◌, and-false, or-true, true≢false}
 use lib.Dec.{leb, eqb}
-use lib.IntN.{ℤ, pos, negsuc, neg_ℤ, nat_abs, ◌-ℤ◌, +ℤ_idl}
-use lib.Pow.{pow_pos}
+use lib.IntN.{ℤ, pos, negsuc, neg_ℤ, nat_abs}
 use lib.Signed.{mag, non_neg}
 use mir.Syntax.{Width}
-use mir.Val.{SFits, to_z, of_z, hbits}
-use mir.Facts.{to_z-of_z, to_z_pos}
+use mir.Val.{SFits, hbits}
 use borrow.Author.Tests.{eqb-true, eqb-false, leb-true, not-true, eq-eqb, ne_eqb, le-leb}
 use Rattle.clock_time.proofs.Tests.{both}
 use Rattle.signed.specs.Signed.{signed, sign_holds, sign_byte}
@@ -23,14 +21,6 @@ pub signed_fits : (w : Width) (t : Bool) (n : ℕ) → n < 2 ^ hbits w → SFits
 unfolding signed
 signed_fits w true n h = record { sfits = omega (arith, negated_magnitude n) }
 signed_fits w false n h = record { sfits = h }
-
--- zero less a magnitude, as the machine holds both
-pub zero_less : (w : Width) (n : ℕ) → n < 2 ^ hbits w → to_z w 0 -ℤ to_z w n ≡ signed true n
-unfolding signed
-zero_less w n h = rw (to_z_pos w (pow_pos (hbits w)), to_z_pos w h) (+ℤ_idl (neg_ℤ (pos n)))
-
-pub less_held : (w : Width) (n : ℕ) → n < 2 ^ hbits w → to_z w (of_z w (to_z w 0 -ℤ to_z w n)) ≡ signed true n
-less_held w n h = rw (zero_less w n h) (to_z-of_z (signed_fits w true n h))
 
 -- ---- a magnitude with its sign
 -- the rules of a sign and a magnitude, one by one

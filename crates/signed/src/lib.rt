@@ -7,6 +7,7 @@ ghost use Rattle.signed.specs.Signed.{signed, sign_holds, sign_byte};
 pub mod offset;
 
 // The number of a magnitude, below zero if `negative`.
+#[tactic(auto, unfolding(crate::specs::Signed::signed))]
 pub fn with_sign(negative: bool, magnitude: u32) -> i64
     ensures { result ≡ signed negative magnitude }
 {
@@ -15,6 +16,7 @@ pub fn with_sign(negative: bool, magnitude: u32) -> i64
 }
 
 // Whether a byte is one of two signs and a magnitude is within its limit, and no zero is below zero.
+#[tactic(auto, unfolding(crate::specs::Signed::sign_holds))]
 pub fn sign_holds(above: u8, below: u8, limit: u32, byte: u8, magnitude: u32) -> bool
     ensures { result ≡ sign_holds above below limit byte magnitude }
 {

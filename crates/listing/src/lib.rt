@@ -48,19 +48,15 @@ fn put_line(out: &mut [u8], at: usize, line: &[u8])
 fn next_line(listing: Listing, s: &[u8]) -> LineResult
     ensures { ListsNext listing s.now result }
 {
-    let framer = listing.framer;
-    let totals = listing.totals;
-    let fed = framer.feed(s, s.len());
-    let event = fed.event;
-    let framer = fed.framer;
-    let bytes = framer.bytes;
-    let entry = entry::entry_at(&bytes, event);
-    let totals = entry::count(totals, entry);
-    let listing = Listing { framer, totals };
-    let line = entry::entry_line(entry);
+    let fed = listing.framer.feed(s, s.len());
+    let entry = entry::entry_at(&fed.framer.bytes, fed.event);
+    let totals = entry::count(listing.totals, entry);
     LineResult {
-        listing,
-        line,
+        listing: Listing {
+            framer: fed.framer,
+            totals,
+        },
+        line: entry::entry_line(entry),
         taken: fed.taken,
     }
 }
@@ -86,6 +82,7 @@ impl Listing {
         let mut listing = self;
         let mut at = 0;
         let mut i = 0;
+        // No step of one: a turn takes as many bytes as the feed did.
         while i < s.len() {
             if out.len() - at < 35 {
                 return Listed {

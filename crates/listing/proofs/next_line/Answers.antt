@@ -9,4 +9,4 @@ entry_at-entry-requires c =
 pub returns : goal.returns
 returns c =
     lists_next c.args.listing c.args.s.now c.feed-fed.result c.feed-fed.ensures _ c.entry_at-entry.ensures _
-    c.count-totals.ensures _ c.entry_line-line.ensures
+    c.count-totals.ensures _ c.entry_line.ensures

@@ -74,6 +74,7 @@ fn sent_fields(s: &[u8; 21]) -> ClockTime
 
 // Reads an ELV DCF7000 string. Refuses with the first that holds of Length (1), FixedByte (2), NotDigit (3), FlagLetter
 // (4), NoSuchDate (5) and NoSuchTime (6).
+#[tactic(auto, unfolding(crate::specs::Elv::read_elv))]
 pub fn read_elv(s: &[u8]) -> Result<ClockTime, Error>
     ensures { answer_of result ≡ read_elv s.now }
 {

@@ -46,6 +46,7 @@ fn text_with(t: ClockTime, flags: u8) -> [u8; 21]
 }
 
 // The only string that could be read as `t`.
+#[tactic(auto, unfolding(elv_dcf7000::specs::Elv::elv_text))]
 fn text_of(t: ClockTime) -> [u8; 21]
     ensures { result ≡ elv_text t }
 {

@@ -30,8 +30,7 @@ impl<'a> Fitting<'a> {
     {
         let s = self.s;
         let [_, minutes, _] = layout_words::numbers_at(s, 25);
-        !((minutes <= 59)
-            & signed::sign_holds(b'+', b'-', 60 * 14, s[24], self.offset_magnitude()))
+        !((minutes <= 59) & signed::sign_holds(b'+', b'-', 60 * 14, s[24], self.offset_magnitude()))
     }
 
     fn offset(self) -> i16

@@ -30,6 +30,7 @@ impl StringFormat<66> for Gps {
             & rest_fits(s)
     }
 
+    #[tactic(auto, unfolding(crate::specs::Gps::gps, crate::specs::Gps::read_gps))]
     fn read_fitting(s: &[u8; 66]) -> Result<GpsTime, Error> {
         Fitting { s }.read()
     }

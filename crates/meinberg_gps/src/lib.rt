@@ -21,6 +21,7 @@ pub struct GpsTime {
 // Reads a Meinberg GPS string: the clock time and the position. Refuses with the first that holds of Length (1),
 // FixedByte (2), NotDigit (3), FlagLetter (4), UtcOffset (8), Position (9), NoSuchDate (5), NoSuchTime (6) and Weekday
 // (7).
+#[tactic(auto, unfolding(crate::specs::Gps::read_gps))]
 pub fn read_gps(s: &[u8]) -> Result<GpsTime, Error>
     ensures { answer_of result ≡ read_gps s.now }
 {

@@ -78,6 +78,7 @@ pub fn position_text(p: Position) -> PositionText
 }
 
 // Whether a position is one that these bytes can represent.
+#[tactic(auto, unfolding(crate::specs::Position::position_representable))]
 pub fn is_representable(p: Position) -> bool
     ensures { result ≡ position_representable p }
 {

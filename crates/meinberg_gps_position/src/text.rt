@@ -4,6 +4,7 @@ ghost use Rattle.decimal.specs.Decimal.{digits};
 ghost use Rattle.meinberg_gps_position.specs.Aligned.{blank_or, aligned};
 
 // A blank for 0, else the last digit.
+#[tactic(auto, unfolding(crate::specs::Aligned::blank_or))]
 fn digit_or_blank(n: u32) -> u8
     ensures { result ≡ blank_or n }
 {
@@ -14,6 +15,7 @@ fn digit_or_blank(n: u32) -> u8
 }
 
 // A number below 10,000, right-aligned.
+#[tactic(auto, unfolding(crate::specs::Aligned::aligned, crate::specs::Aligned::padded))]
 pub(crate) fn aligned_text(n: u32) -> [u8; 4]
     ensures { result ≡ aligned 4 n }
 {

@@ -17,6 +17,7 @@ pub(crate) struct Fitting<'a> {
 
 impl<'a> Fitting<'a> {
     // Whether the hex digits of the sum are those that were sent.
+    #[tactic(auto, unfolding(crate::specs::Sum::sum_holds))]
     fn sum_holds(self) -> bool
         ensures { result ≡ sum_holds self.entry.s.now }
     {

@@ -28,6 +28,7 @@ impl StringFormat<37> for Trimble {
             & end_fits(s)
     }
 
+    #[tactic(auto, unfolding(crate::specs::Trimble::trimble, crate::specs::Trimble::read_trimble))]
     fn read_fitting(s: &[u8; 37]) -> Result<TrimbleTime, Error> {
         Fitting { s }.read()
     }

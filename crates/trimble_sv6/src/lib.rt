@@ -21,6 +21,7 @@ pub struct TrimbleTime {
 
 // Reads a Trimble SV6 string: the clock time and the milliseconds. Refuses with the first that holds of Length (1),
 // FixedByte (2), NotDigit (3), Checksum (24), ValidityFlag (25), NoSuchDate (5) and NoSuchTime (6).
+#[tactic(auto, unfolding(crate::specs::Trimble::read_trimble))]
 pub fn read_trimble(s: &[u8]) -> Result<TrimbleTime, Error>
     ensures { answer_of result ≡ read_trimble s.now }
 {

@@ -1,26 +1,23 @@
 -- The checks of a minute: that of its length, and the others by parts, as the code goes through them.
-use Prim.Native.Nat.{ℕ, suc, ◌≤◌}
+use Prim.Native.Nat.{ℕ, ◌≤◌}
 use native.Mathlib.Decide.{ℕ_discrete}
 use native.Mathlib.Omega.{arith}
 use mathlib.Core.Path.{◌≡◌, refl, sym, ap, ◌∙◌}
 use mathlib.Core.Logic.{◌⊎◌, inl, inr, ⊎_elim}
 use mathlib.Core.Bool.{Bool, true, false, cond, not, ◌&&◌, ◌||◌, and-true}
 use mathlib.Core.List.{List, [], ◌∷◌, ◌++◌}
-use lib.Dec.{leb, ltb, eqb}
+use lib.Dec.{ltb, eqb}
 use lib.IntN.{ℤ}
-use lib.ListN.{length}
-use borrow.Author.Tests.{not-false, eqb-true, leb-true, eq-eqb, ne_eqb}
+use borrow.Author.Tests.{not-false, eqb-true, eq-eqb, ne_eqb}
 use Rattle.std.specs.Prelude.{Option, Some, Result, Ok, Err, IfSome}
 use Rattle.std.specs.Result.{IsErrAnd}
 use Rattle.clock_time.specs.declared.Error.{Error}
 use Rattle.clock_time.specs.Reading.{answer_of}
 use Rattle.clock_time.specs.Errors.{error_number, Check, accepted, refused, checked, Passes}
 use Rattle.clock_time.proofs.ErrorLaws.{apart, accepted_passes}
-use Rattle.clock_time.proofs.Tests.{both}
 use Rattle.calendar.specs.TimeOfDay.{time_exists}
 use Rattle.dcf77.specs.Minute.{announced, minute_fields, minute_checks, read_minute}
-use Rattle.dcf77.specs.Marks.{all_sure}
-use Rattle.dcf77.specs.Numbers.{Numbers, start_checks, number_checks, date_checks, time_checks}
+use Rattle.dcf77.specs.Numbers.{start_checks, number_checks, date_checks, time_checks}
 use Rattle.dcf77.specs.declared.marks.SureRun.{SureRun}
 use Rattle.dcf77.specs.declared.reading.Minute.{Minute}
 use Rattle.dcf77.specs.declared.MinuteTime.{MinuteTime}

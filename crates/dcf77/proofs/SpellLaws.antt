@@ -5,12 +5,13 @@ use native.Mathlib.Numerals.{add-one}
 use native.Mathlib.Omega.{arith}
 use mathlib.Core.Path.{◌≡◌, refl, ap, ◌∙◌}
 use mathlib.Core.Bool.{Bool, true, false}
-use mathlib.Core.List.{List, [], ◌∷◌, ◌++◌, append_assoc}
+use mathlib.Core.List.{List, [], ◌∷◌, ◌++◌, append_assoc, append-nil}
 use lib.ListN.{length, take, set}
-use lib.Seq.{take-suc-set}
+use lib.Seq.{take-suc-set, take_all}
 use lib.Count.{ones, ones_step}
 use lib.Arith.{digits_lt}
 use lib.Pow.{pow_pos, pow-add, field, mod-mod-pow}
+use mir.Val.{bool_byte}
 use Rattle.clock_time.specs.Lists.{sum}
 use Rattle.dcf77.specs.Marks.{bits}
 use Rattle.dcf77.specs.Writable.{Spells}
@@ -53,7 +54,7 @@ spells_small k n h = record { below = h; marks = refl }
 pub spells_last : (k n : ℕ) → Spells k (bits k n) (n % 2 ^ k)
 spells_last k n = record { below = mod-lt n (pow_pos k); marks = bits_mod k n }
 
-pub spells_mark : (b : Bool) → Spells 1 (mark b ∷ []) (mark b)
+pub spells_mark : (b : Bool) → Spells 1 (mark b ∷ []) (bool_byte b)
 unfolding bits
 spells_mark true = record { below = omega arith; marks = refl }
 spells_mark false = record { below = omega arith; marks = refl }
@@ -100,3 +101,8 @@ unfolding bits
 bits_more line rest i h long =
     let next : 60 - i ≡ suc (60 - (i + 1)) = omega arith in
     rw (next, add-one i, take-suc-set line i (rest % 2) (omega arith), append_assoc)
+
+-- and all are put
+pub bits_all : (line : List ℕ) (rest : ℕ) → length line ≡ 60 → line ≡ take 60 line ++ bits (60 - 60) rest
+unfolding bits
+bits_all line rest long = rw (take_all 60 line (omega arith), append-nil line)

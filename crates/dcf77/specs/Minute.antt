@@ -2,7 +2,7 @@
 use Rattle.std.specs.Prelude.{ℕ, ◌/◌, ◌%◌, Bool, false, cond, not, ◌&&◌, ◌||◌, List, [], ◌∷◌, ◌++◌, leb, eqb, length, get_or}
 use Rattle.std.specs.Bool.{beq}
 use Rattle.clock_time.specs.Zone.{cet_offset}
-use Rattle.clock_time.specs.Errors.{Answer, accepted, refused, Check, given, checked}
+use Rattle.clock_time.specs.Errors.{Answer, Check, given, checked}
 use Rattle.clock_time.specs.Same.{same_time}
 use Rattle.clock_time.specs.Writing.{Written, write_back}
 use Rattle.clock_time.specs.declared.ClockTime.{ClockTime}

@@ -1,5 +1,5 @@
 -- What the private functions require and ensure: runs of marks as numbers.
-use Rattle.std.specs.Prelude.{ℕ, ◌+◌, ◌*◌, ◌/◌, ◌%◌, ◌≤◌, ◌≡◌, true, cond, not, ◌&&◌, List, [], ◌∷◌, leb, ltb, eqb, length, get_or}
+use Rattle.std.specs.Prelude.{ℕ, ◌+◌, ◌*◌, ◌/◌, ◌%◌, ◌≤◌, ◌≡◌, true, not, ◌&&◌, List, [], ◌∷◌, leb, ltb, eqb, length, get_or}
 use Rattle.std.specs.Int.Count.{ones}
 use Rattle.clock_time.specs.Errors.{Check, given}
 use Rattle.gregorian.specs.Date.{date_exists}

@@ -33,7 +33,8 @@ pub fn read_minute(m: &[u8]) -> Result<MinuteTime, Error>
     minute.check_start()?;
     minute.check_numbers()?;
     let a = minute.fields();
-    reading::check_date(a.time)?;
-    minute.check_time(a.time)?;
+    let t = a.time;
+    reading::check_date(t)?;
+    minute.check_time(t.hour, t.minute)?;
     Ok(a)
 }

@@ -80,10 +80,11 @@ impl<'a> Minute<'a> {
     pub(crate) fn fields(&self) -> MinuteTime
         ensures { result ≡ minute_fields self.now.run.marks.now }
     {
+        let time = self.announced_time();
         let run = &self.run;
         let first = run.eight(FIRST) + 256 * (run.eight(FIRST + 8) % 64);
         MinuteTime {
-            time: self.announced_time(),
+            time,
             detail: MinuteDetail {
                 first_marks: first as u16,
                 sixty: run.marks.len() == 60,
@@ -152,13 +153,13 @@ impl<'a> Minute<'a> {
     }
 
     // Refuses, at second 0, with the first that holds of NoSuchTime (6) and LeapMinute (19).
-    pub(crate) fn check_time(&self, t: ClockTime) -> Result<(), Error>
-        ensures { answer_of result ≡ checked (time_checks self.now.run.marks.now t.hour t.minute) tt }
+    pub(crate) fn check_time(&self, hour: u8, minute: u8) -> Result<(), Error>
+        ensures { answer_of result ≡ checked (time_checks self.now.run.marks.now hour minute) tt }
     {
-        if !((t.hour < 24) & (t.minute < 60)) {
+        if !((hour < 24) & (minute < 60)) {
             return Err(Error::NoSuchTime);
         }
-        if self.is_leap_fault(t.minute) {
+        if self.is_leap_fault(minute) {
             return Err(Error::LeapMinute);
         }
         Ok(())

@@ -1,23 +1,28 @@
 // The marks of a minute, made as the bits of one number. Each `spell_` function returns the number whose bits are the
 // marks of its part of the run, mark 0 the lowest.
 ghost use Rattle.std.specs.Prelude.{◌≡◌, not, [], ◌∷◌, ◌++◌, ◌/◌, ◌%◌};
-ghost use Rattle.clock_time.specs.Zone.{cet_offset};
-ghost use Rattle.clock_time.specs.Same.{eq_ℤ};
 ghost use Rattle.clock_time.specs.Writing.{written};
 ghost use Rattle.dcf77.specs.Marks.{bits};
 ghost use Rattle.dcf77.specs.Writable.{Spells, fields_representable, minute_representable};
 ghost use Rattle.dcf77.specs.Minute.{mark, with_parity, first_marks_of, minute_text, write_minute};
 
-use clock_time::Error;
+use clock_time::{ClockTime, Error};
 use dcf77::MinuteTime;
 
 // Marks 15 to 20.
-fn spell_flags(antenna: bool, change: bool, summer: bool, leap: bool) -> u64
-    ensures { Spells 6 (mark antenna ∷ mark change ∷ mark summer ∷ mark (not summer) ∷ mark leap ∷ 1 ∷ []) result }
+fn spell_flags(t: ClockTime) -> u64
+    ensures { Spells 6
+        (mark t.alternate_antenna
+        ∷ mark t.dst_change_announced
+        ∷ mark t.summer_time
+        ∷ mark (not t.summer_time)
+        ∷ mark t.leap_second_announced
+        ∷ 1
+        ∷ []) result }
 {
-    let zone = bits::bit(summer) as u64 + 2 * (bits::bit(!summer) as u64);
-    let low = bits::bit(antenna) as u64 + 2 * (bits::bit(change) as u64) + 4 * zone;
-    low + 16 * (bits::bit(leap) as u64 + 2)
+    let zone = u64::from(t.summer_time) + 2 * u64::from(!t.summer_time);
+    let low = u64::from(t.alternate_antenna) + 2 * u64::from(t.dst_change_announced) + 4 * zone;
+    low + 16 * (u64::from(t.leap_second_announced) + 2)
 }
 
 // Marks 21 to 28, the parity last.
@@ -37,22 +42,23 @@ fn spell_hour(hour: u8) -> u64
 }
 
 // Marks 45 to 57.
-fn spell_month(month: u8, year: u16) -> u64
+fn spell_month(t: ClockTime) -> u64
     ensures { Spells 13
-        (bits 4 (month % 10) ++ bits 1 (month / 10) ++ bits 4 (year % 10) ++ bits 4 (year / 10 % 10)) result }
+        (bits 4 (t.month % 10) ++ bits 1 (t.month / 10) ++ bits 4 (t.year % 10) ++ bits 4 (t.year / 10 % 10))
+        result }
 {
-    let decade = (year % 10) as u64 + 16 * ((year / 10 % 10) as u64);
-    (month % 10) as u64 + 16 * ((month / 10 % 2) as u64 + 2 * decade)
+    let decade = (t.year % 10) as u64 + 16 * ((t.year / 10 % 10) as u64);
+    (t.month % 10) as u64 + 16 * ((t.month / 10 % 2) as u64 + 2 * decade)
 }
 
 // Marks 36 to 58, the parity last.
-fn spell_date(day: u8, weekday: u8, month: u8, year: u16) -> u64
+fn spell_date(t: ClockTime) -> u64
     ensures { Spells 23
-        (with_parity (bits 4 (day % 10) ++ bits 2 (day / 10) ++ bits 3 weekday ++ bits 4 (month % 10)
-        ++ bits 1 (month / 10) ++ bits 4 (year % 10) ++ bits 4 (year / 10 % 10))) result }
+        (with_parity (bits 4 (t.day % 10) ++ bits 2 (t.day / 10) ++ bits 3 t.weekday ++ bits 4 (t.month % 10)
+        ++ bits 1 (t.month / 10) ++ bits 4 (t.year % 10) ++ bits 4 (t.year / 10 % 10))) result }
 {
-    let rest = (weekday % 8) as u64 + 8 * spell_month(month, year);
-    let n = (day % 10) as u64 + 16 * ((day / 10 % 4) as u64 + 4 * rest);
+    let rest = (t.weekday % 8) as u64 + 8 * spell_month(t);
+    let n = (t.day % 10) as u64 + 16 * ((t.day / 10 % 4) as u64 + 4 * rest);
     n + 4194304 * bits::parity(n)
 }
 
@@ -61,29 +67,19 @@ fn spell_run(a: MinuteTime) -> u64
     ensures { Spells 59 (first_marks_of a) result }
 {
     let t = a.time;
-    let d = a.detail;
-    let flags = spell_flags(
-        t.alternate_antenna,
-        t.dst_change_announced,
-        t.summer_time,
-        t.leap_second_announced,
-    );
-    let date = spell_date(t.day, t.weekday, t.month, t.year);
-    let groups = spell_minute(t.minute) + 256 * (spell_hour(t.hour) + 128 * date);
-    2 * ((d.first_marks % 16384) as u64 + 16384 * (flags + 64 * groups))
+    let groups = spell_minute(t.minute) + 256 * (spell_hour(t.hour) + 128 * spell_date(t));
+    2 * ((a.detail.first_marks % 16384) as u64 + 16384 * (spell_flags(t) + 64 * groups))
 }
 
 // The bits of a number, the lowest first.
 fn put_bits(n: u64) -> [u8; 60]
     ensures { result ≡ bits 60 n }
 {
-    let mut marks = [0u8; 60];
+    let mut marks = [0; 60];
     let mut rest = n;
-    let mut i = 0;
-    while i < 60 {
-        marks[i] = (rest % 2) as u8;
-        rest = rest / 2;
-        i += 1;
+    for mark in marks.iter_mut() {
+        *mark = (rest % 2) as u8;
+        rest /= 2;
     }
     marks
 }
@@ -93,16 +89,6 @@ pub(crate) fn sixty_marks(a: MinuteTime) -> [u8; 60]
     ensures { result ≡ first_marks_of a ++ (0 ∷ []) }
 {
     put_bits(spell_run(a))
-}
-
-// Whether the offset is that of the zone.
-fn is_zone_offset(offset: i16, summer: bool) -> bool
-    ensures { result ≡ eq_ℤ offset (cet_offset summer) }
-{
-    if summer {
-        return offset == 120;
-    }
-    offset == 60
 }
 
 // Whether a minute can have the fields, but for what every format asks and for the offset.
@@ -123,7 +109,7 @@ fn is_representable(a: MinuteTime) -> bool
     ensures { result ≡ minute_representable a }
 {
     let t = a.time;
-    if are_fields_representable(a) & is_zone_offset(t.utc_offset, t.summer_time) {
+    if are_fields_representable(a) & (t.utc_offset == clock_time::cet_offset(t.summer_time)) {
         return calendar::representable::is_representable(t);
     }
     false

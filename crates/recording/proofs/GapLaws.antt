@@ -9,12 +9,14 @@ use mathlib.Core.Logic.{◌↔◌}
 use mathlib.Core.Bool.{true}
 use mathlib.Core.List.{List, [], ◌∷◌}
 use mathlib.Core.Option.{Option, none, some}
-use lib.ListN.{length, get_or, drop, set, length-drop, drop_of_length-le}
-use lib.Seq.{drop-cons, get_or-set_other, drop-set-lt, get_or-drop}
+use lib.ListN.{length, get_or, take, drop, set, length-drop, drop_of_length-le}
+use lib.Seq.{length-take-le, get_or-take, take_all, drop-cons, get_or-set_other, drop-set-lt, get_or-drop}
 use borrow.Author.Tests.{eq-eqb, ne_eqb}
+use Rattle.std.specs.Prelude as Prelude
+use Rattle.std.specs.Prelude.{MatchOption}
 use Rattle.dcf77.specs.Marks.{eight_sure}
 use Rattle.dcf77.proofs.MarkLaws.{eight_small}
-use Rattle.recording.specs.Gaps.{gap_before, first_gap, gap_after, FirstGapAfter, NearestGapBefore}
+use Rattle.recording.specs.Gaps.{gap_before, first_gap, gap_after, gap_of, FirstGapAfter, NearestGapBefore}
 
 -- ---- what is found is one place
 pub some_one : (x : Option ℕ) (g k : ℕ) → x ≡ some g → x ≡ some k → g ≡ k
@@ -233,3 +235,56 @@ first_set m p v g = (
   λ f. after_is_first (set m p v) p g (after_set m p v ∙ first_is_after m p g f),
   λ f. after_is_first m p g (sym (after_set m p v) ∙ first_is_after (set m p v) p g f),
 )
+
+-- ---- what a search through some of the marks has found
+module _ (m : List ℕ) where
+  pub last_before : (end : ℕ) (r : Prelude.Option ℕ) → end ≤ length m
+      → MatchOption r
+      ((k : ℕ) → k < length (take end m) → get_or (take end m) k 0 ≡ 2 → ⊥)
+      (λ i. (i < length (take end m)) × (get_or (take end m) i 0 ≡ 2)
+      × ((k : ℕ) → i < k → k < length (take end m) → get_or (take end m) k 0 ≡ 2 → ⊥))
+      → gap_of r ≡ gap_before m end
+  last_before end Prelude.None h n =
+      let long = length-take-le end m h in
+      sym (none_before m end (λ i l q. n i (omega arith) (get_or-take end m i 0 l ∙ q)))
+  last_before end (Prelude.Some g) h f =
+      let long = length-take-le end m h in
+      let l : g < end = omega (arith, f.0) in
+      sym (nearest_is_before m end g (record {
+        earlier = l;
+        mark = sym (get_or-take end m g 0 l) ∙ f.1;
+        nearest = λ i a b q. f.2 i a (omega arith) (get_or-take end m i 0 b ∙ q);
+      }))
+
+  no_gap_in : (j : ℕ) → ((k : ℕ) → k < length m → get_or m k 0 ≡ 2 → ⊥) → first_gap m j ≡ none
+  no_gap_in j n = go (first_gap m j) refl
+    where
+      go : (x : Option ℕ) → first_gap m j ≡ x → x ≡ none
+      go none e = refl
+      go (some g) e = let r = first_in m j g e in absurd (n r.0 r.2 r.3)
+
+  gap_in : (j i : ℕ) → get_or m i 0 ≡ 2 → ((k : ℕ) → k < i → get_or m k 0 ≡ 2 → ⊥)
+      → first_gap m j ≡ some (j + i)
+  gap_in j i q n =
+      let r = first_found m j i q in
+      let s = first_in m j (j + r.0) r.1 in
+      elim (ℕ_discrete r.0 i) [
+        | yes e ↦ r.1 ∙ ap (λ (k : ℕ). some (j + k)) e
+        | no e ↦ absurd (n s.0 (omega (arith, r.2, s.1)) s.3)
+      ]
+
+-- the marks from a place on, as the code cuts them out, after marks that are no gaps
+module _ (m : List ℕ) (p start : ℕ) (same : first_gap (drop start m) start ≡ first_gap (drop (p + 1) m) (p + 1)) where
+  abbrev rest : List ℕ
+  rest = take (length m - start) (drop start m)
+
+  rest_all : rest ≡ drop start m
+  rest_all = take_all (length m - start) (drop start m) (omega (arith, length-drop start m))
+
+  pub none_after : ((k : ℕ) → k < length rest → get_or rest k 0 ≡ 2 → ⊥) → none ≡ gap_after m p
+  none_after n = sym (no_gap_in (drop start m) start (rw rest_all at n)) ∙ same ∙ after_start m p
+
+  pub some_after : (i : ℕ) → get_or rest i 0 ≡ 2 → ((k : ℕ) → k < i → get_or rest k 0 ≡ 2 → ⊥)
+      → some (start + i) ≡ gap_after m p
+  some_after i q n =
+      sym (gap_in (drop start m) start i (rw rest_all at q) (rw rest_all at n)) ∙ same ∙ after_start m p

@@ -5,11 +5,12 @@ use native.Mathlib.Nat.{not-suc-le-zero}
 use native.Mathlib.Numerals.{add-one}
 use native.Mathlib.Omega.{arith}
 use mathlib.Core.Path.{◌≡◌, refl, sym, ◌∙◌}
-use mathlib.Core.Bool.{Bool, true, false, cond, true≢false}
+use mathlib.Core.Bool.{Bool, true, false, cond, not, true≢false}
 use mathlib.Core.List.{List, [], ◌∷◌, ◌++◌, append_assoc, append-nil}
 use lib.Dec.{eqb}
 use lib.ListN.{length, get_or, drop, set, length-set, length-append, drop_of_length-le, get_or-append}
 use lib.Seq.{drop-cons, get_or-set_other, get_or-set_same, set_at, get_or_at, ext_get_or}
+use mir.Val.{bool_byte}
 use borrow.Author.Tests.{eq-eqb, ne_eqb}
 use Rattle.recording.specs.Outcomes.{Right, numbers, mended, differ, differences}
 
@@ -110,6 +111,15 @@ pub fill_end : (f : ℕ → ℕ) (o o₁ : List ℕ) (n k : ℕ) → k ≡ lengt
 fill_end f o o₁ n k l q e = e ∙ rw (drop_of_length-le o {i = n} (omega arith), append-nil, q)
 
 -- ---- the count
+-- whether two numbers differ, as a number
+pub differ_byte : (x y z : ℕ) → y ≡ z → bool_byte (not (eqb x y)) ≡ differ x z
+unfolding differ
+differ_byte x y z e = rw e (go (eqb x z))
+  where
+    go : (t : Bool) → bool_byte (not t) ≡ cond t 0 1
+    go true = refl
+    go false = refl
+
 pub differ_le : (a x y : ℕ) → a ≡ differ x y → a ≤ 1
 unfolding differ
 differ_le a x y e = rw e (go (eqb x y))

@@ -5,14 +5,14 @@ use mathlib.Core.Path.{◌≡◌, refl, sym, ap}
 use mathlib.Core.Bool.{Bool, true, false, not, ◌||◌, true≢false}
 use mathlib.Core.List.{List, [], ◌∷◌, Option-to_list}
 use mathlib.Core.Option.{none, some}
-use lib.Dec.{eqb, ltb}
-use lib.ListN.{length, get_or, set, length-set}
-use borrow.Author.Tests.{lt-ltb, le-ltb, le-leb, lt-leb, eq-eqb, eqb-true, ltb-false}
+use lib.Dec.{eqb, leb, ltb}
+use lib.ListN.{length, get_or, set}
+use borrow.Author.Tests.{lt-ltb, le-ltb, lt-leb, eq-eqb, eqb-true, ltb-false}
 use Rattle.std.specs.Prelude.{Ok, Err}
 use Rattle.clock_time.specs.Errors.{accepted, refused, error_number, given, checked}
 use Rattle.clock_time.specs.Exit.{Exit}
 use Rattle.clock_time.specs.declared.Error.{Error}
-use Rattle.clock_time.proofs.ErrorLaws.{accepted_passes}
+use Rattle.clock_time.proofs.ErrorLaws.{apart, accepted_passes}
 use Rattle.clock_time.proofs.ExitLaws.{leaves_accepted, leaves_refused}
 use Rattle.recording.specs.Gaps.{gap_after}
 use Rattle.recording.specs.Outcomes.{Right, numbers, differ, differences}
@@ -31,12 +31,17 @@ unfit_false a b h = let e = go (eqb a b) (ltb 100000 a) h in (eqb-true a b e.0, 
     go true false h = (refl, refl)
     go false t h = absurd (true≢false h)
 
-pub set_fits : (m u o : List ℕ) (p v : ℕ) → u ≡ set m p v → unfit (length m) (length o) ≡ false → p < length m
-    → (p < length u) × (length u ≡ length o)
-set_fits m u o p v e h k = rw (e, length-set) (k, (unfit_false (length m) (length o) h).0)
-
 fits_unfit : (a b : ℕ) → a ≡ b → a ≤ 100000 → unfit a b ≡ false
 fits_unfit a b e h = simp (eq-eqb _ _ e, le-ltb _ _ h)
+
+-- ---- a check that the code makes by itself
+pub check_fails : (n k : ℕ) (b : Bool) → refused k ≡ checked {A = Unit {0}} (given n b ∷ []) tt → (b ≡ true) × (k ≡ n)
+check_fails n k true e = let z : k ≡ n = cc in (refl, z)
+check_fails n k false e = apart (sym e)
+
+pub check_passes : (n : ℕ) (b : Bool) → accepted tt ≡ checked {A = Unit {0}} (given n b ∷ []) tt → b ≡ false
+check_passes n true e = apart e
+check_passes n false e = refl
 
 -- ---- the number at a place
 pub outcome_fits : (m : List ℕ) (i : ℕ) → length m ≤ 100000 → i < length m → outcome_at m i ≡ accepted (rule m i)
@@ -99,26 +104,26 @@ module _ (m o : List ℕ) (p v : ℕ) where
   unfolding correct_mark
   correct_unfit h = rw h
 
-  pub correct_no_place : unfit (length m) (length o) ≡ false → length m ≤ p
+  pub correct_no_place : unfit (length m) (length o) ≡ false → leb (length m) p ≡ true
       → record { answer = refused 21; memory = recorded m o } ≡ correct_mark m o p v
   unfolding correct_mark
-  correct_no_place h k = simp (h, le-leb _ _ k)
+  correct_no_place h k = simp (h, k)
 
-  pub correct_no_mark : unfit (length m) (length o) ≡ false → p < length m → 3 < v
+  pub correct_no_mark : unfit (length m) (length o) ≡ false → leb (length m) p ≡ false → 3 < v
       → record { answer = refused 22; memory = recorded m o } ≡ correct_mark m o p v
   unfolding correct_mark
-  correct_no_mark h k q = simp (h, lt-leb _ _ k, lt-ltb _ _ q)
+  correct_no_mark h k q = simp (h, k, lt-ltb _ _ q)
 
-  pub correct_done : (o' : List ℕ) (n : ℕ) → unfit (length m) (length o) ≡ false → p < length m → v ≤ 3
+  pub correct_done : (o' : List ℕ) (n : ℕ) → unfit (length m) (length o) ≡ false → leb (length m) p ≡ false → v ≤ 3
       → o' ≡ updated (set m p v) o p → n ≡ differences o (updated (set m p v) o p)
       → record { answer = accepted n; memory = recorded (set m p v) o' } ≡ correct_mark m o p v
   unfolding correct_mark
-  correct_done o' n h k q e c = rw (h, lt-leb _ _ k, le-ltb _ _ q, e, c)
+  correct_done o' n h k q e c = rw (h, k, le-ltb _ _ q, e, c)
 
   pub correct_fits : length m ≡ length o → length m ≤ 100000 → p < length m → v ≤ 3
       → (n : ℕ) × ((correct_mark m o p v).answer ≡ accepted n)
   correct_fits l h k q =
-      let e = correct_done _ _ (fits_unfit (length m) (length o) l h) k q refl refl in
+      let e = correct_done _ _ (fits_unfit (length m) (length o) l h) (lt-leb _ _ k) q refl refl in
       (_, ap (λ (x : Exit ℕ Recorded). x.answer) (sym e))
 
   pub correct_kept : (m' o' : List ℕ) (e : Error) → correction (Err e) m' o' ≡ correct_mark m o p v

@@ -1,9 +1,8 @@
 -- The gaps of a recording, the paper's tape: the list of its marks. "Places on a tape count from 0 too." (01, Tape and
 -- sheet)
 use Rattle.std.specs.Prelude.{ℕ, zero, suc, ◌<◌, ◌≡◌, Bool, cond, List, [], ◌∷◌, eqb, get_or, drop}
+use Rattle.std.specs.Prelude as Prelude
 use Rattle.std.proofs.Math.Option.{Option, none, some}
-use Rattle.recording.specs.declared.gaps.Gap.{Gap}
-use Rattle.recording.specs.declared.gaps.Gap.TheVariants.{At, Nothing}
 
 -- "Mark 0 short (100 ms), 1 long (200 ms), 2 gap, 3 and any larger byte on a tape unsure." (01, DCF77 marks)
 abbrev pub is_gap : ℕ → Bool
@@ -37,6 +36,6 @@ pub record NearestGapBefore (marks : List ℕ) (place gap : ℕ) : Type 0 where
   pub nearest : (i : ℕ) → gap < i → i < place → get_or marks i 0 ≡ 2 → ⊥
 
 -- the place that the code's answer names, if it names one
-abbrev pub gap_of : Gap → Option ℕ
-gap_of Nothing = none
-gap_of (At gap) = some gap
+abbrev pub gap_of : Prelude.Option ℕ → Option ℕ
+gap_of Prelude.None = none
+gap_of (Prelude.Some gap) = some gap

@@ -1,6 +1,6 @@
 -- What the crate's functions answer, and leave of the memory lent to them.
 use Rattle.std.specs.Prelude.{ℕ, Result, Bool, not, ◌||◌, List, [], ◌∷◌, eqb, leb, ltb, length, set}
-use Rattle.clock_time.specs.Errors.{Answer, accepted, refused, Check, given, checked}
+use Rattle.clock_time.specs.Errors.{Answer, Check, given, checked}
 use Rattle.clock_time.specs.Reading.{answer_of}
 use Rattle.clock_time.specs.declared.Error.{Error}
 use Rattle.clock_time.specs.Exit.{Exit, exit, leaves}

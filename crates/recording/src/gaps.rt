@@ -1,21 +1,17 @@
-// The gaps next to a place of a recording.
-ghost use Rattle.std.specs.Prelude.{◌≡◌, ◌+◌, ◌<◌, ◌≤◌, length, drop};
+// The gaps of a recording.
+ghost use Rattle.std.specs.Prelude.{◌≡◌, ◌≢◌, ◌+◌, ◌<◌, ◌≤◌, ℕ, length, drop, slice_index, MatchOption};
 ghost use Rattle.recording.specs.Gaps.{gap_before, first_gap, gap_after, gap_of};
 
-// The place of a gap, if there is one.
-#[derive(Clone, Copy)]
-pub(crate) enum Gap {
-    At(usize),
-    Nothing,
-}
+use dcf77::marks;
+use dcf77::marks::GAP;
 
-// Goes back from a place past marks that are short or long, eight at a time.
+// Goes back from a place past marks that are short or long, eight at a time: a chain of chunks would look at each mark.
 fn pass_back(marks: &[u8], place: usize) -> usize
     ensures { (result ≤ place) × (gap_before marks.now result ≡ gap_before marks.now place) }
 {
     let mut i = place;
     while 8 <= i {
-        if !dcf77::marks::are_eight_sure(marks, i - 8) {
+        if !marks::are_eight_sure(marks, i - 8) {
             return i;
         }
         i -= 8;
@@ -23,55 +19,52 @@ fn pass_back(marks: &[u8], place: usize) -> usize
     i
 }
 
-// Goes on from a place past marks that are short or long, eight at a time.
+// Goes on from a place past marks that are short or long, eight at a time, in the same way.
 fn pass_on(marks: &[u8], place: usize) -> usize
-    ensures { first_gap (drop result marks.now) result ≡ first_gap (drop place marks.now) place }
+    ensures within { place ≤ length marks.now → result ≤ length marks.now }
+    ensures same { first_gap (drop result marks.now) result ≡ first_gap (drop place marks.now) place }
 {
     let mut i = place;
-    while dcf77::marks::are_eight_sure(marks, i) {
+    while marks::are_eight_sure(marks, i) {
         i += 8;
     }
     i
 }
 
+// The last gap of some marks.
+fn last_gap(marks: &[u8]) -> Option<usize>
+    ensures { MatchOption result
+        ((k : ℕ) → k < length marks.now → slice_index marks.now k ≢ 2)
+        (λ i. (i < length marks.now) × (slice_index marks.now i ≡ 2)
+        × ((k : ℕ) → i < k → k < length marks.now → slice_index marks.now k ≢ 2)) }
+{
+    marks.iter().rposition(|mark| *mark == GAP)
+}
+
+// The first gap of some marks.
+fn first_gap(marks: &[u8]) -> Option<usize>
+    ensures { MatchOption result
+        ((k : ℕ) → k < length marks.now → slice_index marks.now k ≢ 2)
+        (λ i. (i < length marks.now) × (slice_index marks.now i ≡ 2) × ((k : ℕ) → k < i → slice_index marks.now k ≢ 2)) }
+{
+    marks.iter().position(|mark| *mark == GAP)
+}
+
 // The nearest gap before a place.
-pub(crate) fn gap_before(marks: &[u8], place: usize) -> Gap
+pub(crate) fn gap_before(marks: &[u8], place: usize) -> Option<usize>
     requires { place ≤ length marks.now }
     ensures { gap_of result ≡ gap_before marks.now place }
 {
-    let mut i = pass_back(marks, place);
-    while 0 < i {
-        i -= 1;
-        if marks[i] == 2 {
-            return Gap::At(i);
-        }
-    }
-    Gap::Nothing
+    let end = pass_back(marks, place);
+    last_gap(&marks[..end])
 }
 
 // The first gap after a place.
-pub(crate) fn gap_after(marks: &[u8], place: usize) -> Gap
+pub(crate) fn gap_after(marks: &[u8], place: usize) -> Option<usize>
     requires { place < length marks.now }
     ensures { gap_of result ≡ gap_after marks.now place }
 {
-    let mut i = pass_on(marks, place + 1);
-    while i < marks.len() {
-        if marks[i] == 2 {
-            return Gap::At(i);
-        }
-        i += 1;
-    }
-    Gap::Nothing
-}
-
-// The nearest gap up to a place: the place itself if it is one, else the nearest before it.
-pub(crate) fn gap_up_to(marks: &[u8], place: usize, before: Gap) -> Gap
-    requires { (place < length marks.now) × (gap_of before ≡ gap_before marks.now place) }
-    ensures { gap_of result ≡ gap_before marks.now (place + 1) }
-{
-    if marks[place] == 2 {
-        Gap::At(place)
-    } else {
-        before
-    }
+    let start = pass_on(marks, place + 1);
+    let found = first_gap(&marks[start..])?;
+    Some(start + found)
 }

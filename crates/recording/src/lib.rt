@@ -1,19 +1,30 @@
 // A recording of DCF77 marks and its outcomes: the number at a place, at every place, and the correction of a mark.
 #![tactic(auto)]
 
-ghost use Rattle.std.specs.Prelude.{◌≡◌, ◌<◌, length, set};
+ghost use Rattle.std.specs.Prelude.{◌≡◌, ◌<◌, [], ◌∷◌, leb, length, set};
 ghost use Rattle.clock_time.specs.Reading.{answer_of};
+ghost use Rattle.clock_time.specs.Errors.{checked, given};
 ghost use Rattle.recording.specs.Recording.{outcome_at, unfit, filling, fill_outcomes};
 ghost use Rattle.recording.specs.Recording.{correction, correct_mark};
 
 use clock_time::Error;
+use place::Place;
 
 mod gaps;
-mod numbers;
-mod update;
+mod place;
 
 // The most marks that a recording may have.
 const LONGEST: usize = 100000;
+
+// Refuses with Place (21) if so many marks have no such place.
+fn check_place(marks: usize, place: usize) -> Result<(), Error>
+    ensures { answer_of result ≡ checked (given 21 (leb marks place) ∷ []) tt }
+{
+    if marks <= place {
+        return Err(Error::Place);
+    }
+    Ok(())
+}
 
 // The number that the rule gives a place. Refuses with LentMemory (20) if there are more than 100,000 marks, then with
 // Place (21) if there is no such place.
@@ -23,17 +34,18 @@ pub fn outcome_at(marks: &[u8], place: usize) -> Result<u32, Error>
     if LONGEST < marks.len() {
         return Err(Error::LentMemory);
     }
-    if marks.len() <= place {
-        return Err(Error::Place);
-    }
-    Ok(numbers::number_at(marks, place))
+    check_place(marks.len(), place)?;
+    Ok(place::number_at(marks, place))
 }
 
-// Whether so many outcomes cannot be those of so many marks.
-fn is_unfit(marks: usize, outcomes: usize) -> bool
-    ensures { result ≡ unfit marks outcomes }
+// Refuses with LentMemory (20) if so many outcomes cannot be those of so many marks.
+fn check_fit(marks: usize, outcomes: usize) -> Result<(), Error>
+    ensures { answer_of result ≡ checked (given 20 (unfit marks outcomes) ∷ []) tt }
 {
-    (marks != outcomes) | (LONGEST < marks)
+    if (marks != outcomes) | (LONGEST < marks) {
+        return Err(Error::LentMemory);
+    }
+    Ok(())
 }
 
 // Puts the number of every place into the outcomes. Refuses with LentMemory (20) if there are not as many outcomes
@@ -41,10 +53,8 @@ fn is_unfit(marks: usize, outcomes: usize) -> bool
 pub fn fill_outcomes(marks: &[u8], outcomes: &mut [u32]) -> Result<(), Error>
     ensures { filling result outcomes.new ≡ fill_outcomes marks.now outcomes.old }
 {
-    if is_unfit(marks.len(), outcomes.len()) {
-        return Err(Error::LentMemory);
-    }
-    numbers::fill(marks, outcomes);
+    check_fit(marks.len(), outcomes.len())?;
+    place::fill(marks, outcomes);
     Ok(())
 }
 
@@ -68,15 +78,11 @@ pub fn correct_mark(
     ensures { correction result marks.new outcomes.new
         ≡ correct_mark marks.old outcomes.old place mark }
 {
-    if is_unfit(marks.len(), outcomes.len()) {
-        return Err(Error::LentMemory);
-    }
-    if marks.len() <= place {
-        return Err(Error::Place);
-    }
+    check_fit(marks.len(), outcomes.len())?;
+    check_place(marks.len(), place)?;
     if 3 < mark {
         return Err(Error::NewMark);
     }
     put_mark(marks, place, mark);
-    Ok(update::update(marks, outcomes, place))
+    Ok(Place::new(marks, place).update(outcomes))
 }

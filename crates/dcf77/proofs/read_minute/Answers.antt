@@ -1,5 +1,5 @@
 -- The checks are gone through part by part.
-use Rattle.std.proofs.Common.{◌≡◌, sym, ap, ◌∙◌}
+use Rattle.std.proofs.Common.{sym, ap, ◌∙◌}
 use Rattle.std.specs.Prelude.{ℕ, Result, Ok, Err}
 use mathlib.Core.Bool.{not}
 use Rattle.clock_time.specs.Errors.{refused, error_number}

@@ -1,30 +1,31 @@
-use mathlib.Core.Path.{sym, ◌∙◌}
-use Rattle.recording.proofs.RecordingLaws.{set_fits, correct_unfit, correct_no_place, correct_no_mark}
+use mathlib.Core.Path.{ap, ◌∙◌}
+use Rattle.clock_time.specs.Errors.{refused}
+use Rattle.dcf77.proofs.CheckLaws.{refused_by}
+use Rattle.recording.proofs.RecordingLaws.{check_fails, check_passes, correct_unfit, correct_no_place, correct_no_mark}
 use Rattle.recording.proofs.RecordingLaws.{correct_done}
 use Rattle.recording.proofs.correct_mark.Goals as goal
 
-pub returns-then-is_unfit : goal.returns-then-is_unfit
-returns-then-is_unfit c = correct_unfit _ _ _ _ (sym c.is_unfit.ensures ∙ c.if-is_unfit.true)
+pub returns-in_err-check_fit : goal.returns-in_err-check_fit
+returns-in_err-check_fit c =
+    let h = check_fails _ _ _ c.in_err-check_fit.ensures in
+    rw (refused_by _ _ c.from_residual.ensures.1 ∙ ap refused h.1) (correct_unfit _ _ _ _ h.0)
 
-pub returns-then-marks-place : goal.returns-then-marks-place
-returns-then-marks-place c =
-    correct_no_place _ _ _ _ (sym c.is_unfit.ensures ∙ c.if-is_unfit.false) c.if-marks-place.true
+pub returns-in_err-check_place : goal.returns-in_err-check_place
+returns-in_err-check_place c =
+    let h = check_fails _ _ _ c.in_err-check_place.ensures in
+    rw (refused_by _ _ c.from_residual-in_err-check_place.ensures.1 ∙ ap refused h.1)
+    (correct_no_place _ _ _ _ (check_passes _ _ c.in_ok-check_fit.ensures) h.0)
 
 pub returns-then-mark-gt3 : goal.returns-then-mark-gt3
 returns-then-mark-gt3 c =
-    correct_no_mark _ _ _ _ (sym c.is_unfit.ensures ∙ c.if-is_unfit.false) c.if-marks-place.false
+    correct_no_mark _ _ _ _ (check_passes _ _ c.in_ok-check_fit.ensures) (check_passes _ _ c.in_ok-check_place.ensures)
     c.if-mark-gt3.true
-
-pub update-requires : goal.update-requires
-update-requires c =
-    set_fits c.args.marks.now _ c.args.outcomes.now c.args.place c.args.mark c.put_mark.ensures
-    (sym c.is_unfit.ensures ∙ c.if-is_unfit.false)
-    c.if-marks-place.false
 
 pub returns : goal.returns
 returns c =
-    let u = c.update in
-    let h = sym c.is_unfit.ensures ∙ c.if-is_unfit.false in
+    let m = c.new.ensures.marks ∙ c.put_mark.ensures in
     rw c.put_mark.ensures
-    (correct_done _ _ _ _ _ _ h c.if-marks-place.false c.if-mark-gt3.false
-    (rw (← c.put_mark.ensures) u.ensures.outcomes) (rw (← c.put_mark.ensures) u.ensures.count))
+    (correct_done _ _ _ _ _ _ (check_passes _ _ c.in_ok-check_fit.ensures) (check_passes _ _ c.in_ok-check_place.ensures)
+    c.if-mark-gt3.false
+    (rw (m, c.new.ensures.place) at c.update.ensures.outcomes)
+    (rw (m, c.new.ensures.place) at c.update.ensures.count))

@@ -1,13 +1,16 @@
-use mathlib.Core.Path.{sym, ◌∙◌}
-use Rattle.recording.proofs.RecordingLaws.{unfit_false, fill_unfit, fill_done}
+use mathlib.Core.Path.{ap, ◌∙◌}
+use Rattle.clock_time.specs.Errors.{refused}
+use Rattle.dcf77.proofs.CheckLaws.{refused_by}
+use Rattle.recording.proofs.RecordingLaws.{check_fails, check_passes, unfit_false, fill_unfit, fill_done}
 use Rattle.recording.proofs.fill_outcomes.Goals as goal
 
-pub returns-then-is_unfit : goal.returns-then-is_unfit
-returns-then-is_unfit c = fill_unfit _ _ (sym c.is_unfit.ensures ∙ c.if-is_unfit.true)
+pub returns-in_err-check_fit : goal.returns-in_err-check_fit
+returns-in_err-check_fit c =
+    let h = check_fails _ _ _ c.in_err-check_fit.ensures in
+    rw (refused_by _ _ c.from_residual.ensures.1 ∙ ap refused h.1) (fill_unfit _ _ h.0)
 
 pub fill-requires : goal.fill-requires
-fill-requires c = (unfit_false _ _ (sym c.is_unfit.ensures ∙ c.if-is_unfit.false)).0
+fill-requires c = (unfit_false _ _ (check_passes _ _ c.in_ok-check_fit.ensures)).0
 
 pub returns : goal.returns
-returns c =
-    fill_done _ _ _ (sym c.is_unfit.ensures ∙ c.if-is_unfit.false) c.fill.ensures
+returns c = fill_done _ _ _ (check_passes _ _ c.in_ok-check_fit.ensures) c.fill.ensures

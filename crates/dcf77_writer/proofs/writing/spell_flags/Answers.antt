@@ -7,14 +7,9 @@ use Rattle.dcf77_writer.proofs.writing.spell_flags.Goals as goal
 pub returns : goal.returns
 unfolding bits
 returns c =
-    rw (
-      c.bit.ensures,
-      c.bit-2.ensures,
-      c.bit-3.ensures,
-      c.bit-4.ensures,
-      c.bit-5.ensures,
-    )
+    let t = c.args.t in
+    rw (c.from.ensures, c.from-2.ensures, c.from-3.ensures, c.from-4.ensures, c.from-5.ensures)
     (spells_join
-    (spells_join (spells_join (spells_mark c.args.antenna) (spells_mark c.args.change))
-    (spells_join (spells_mark c.args.summer) (spells_mark (not c.args.summer))))
-    (spells_join (spells_mark c.args.leap) (spells_small 1 1 (lit< tt))))
+    (spells_join (spells_join (spells_mark t.alternate_antenna) (spells_mark t.dst_change_announced))
+    (spells_join (spells_mark t.summer_time) (spells_mark (not t.summer_time))))
+    (spells_join (spells_mark t.leap_second_announced) (spells_small 1 1 (lit< tt))))

@@ -7,8 +7,8 @@ use Rattle.dcf77_writer.proofs.writing.spell_month.Goals as goal
 pub returns : goal.returns
 unfolding bits
 returns c =
-    let month = c.args.month in
-    let year = c.args.year in
+    let month = c.args.t.month in
+    let year = c.args.t.year in
     let ones : month % 10 < 2 ^ 4 = omega arith in
     let years : year % 10 < 2 ^ 4 = omega arith in
     let decades : year / 10 % 10 < 2 ^ 4 = omega arith in

@@ -1,17 +1,13 @@
-use mathlib.Core.Path.{sym, ◌∙◌}
-use Rattle.recording.proofs.GapLaws.{after_start, after_gap, after_more, after_end}
+use mathlib.Core.Path.{ap, ◌∙◌}
+use Rattle.recording.specs.Gaps.{gap_of}
+use Rattle.recording.proofs.GapLaws.{none_after, some_after}
 use Rattle.recording.proofs.gaps.gap_after.Goals as goal
 
-pub loop-i-init : goal.loop-i-init
-loop-i-init c = c.pass_on-i.ensures ∙ after_start _ _
-
-pub returns-then-marks-i-eq2 : goal.returns-then-marks-i-eq2
-returns-then-marks-i-eq2 c =
-    sym (after_gap _ _ c.loop-i-test.true c.if-marks-i-eq2.true) ∙ c.loop-i.invariant
-
-pub loop-i-preserved : goal.loop-i-preserved
-loop-i-preserved c =
-    sym (after_more _ _ c.loop-i-test.true c.if-marks-i-eq2.false) ∙ c.loop-i.invariant
+pub returns-in_err-found : goal.returns-in_err-found
+returns-in_err-found c =
+    ap gap_of c.from_residual.ensures ∙ none_after _ _ _ c.pass_on-start.ensures.same c.in_err-found.ensures
 
 pub returns : goal.returns
-returns c = sym (after_end _ _ c.loop-i-test.false) ∙ c.loop-i.invariant
+returns c =
+    let f = c.in_ok-found.ensures in
+    some_after _ _ _ c.pass_on-start.ensures.same _ f.1 f.2

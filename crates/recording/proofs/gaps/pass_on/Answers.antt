@@ -16,4 +16,8 @@ loop-i-smaller c =
 
 pub loop-i-preserved : goal.loop-i-preserved
 loop-i-preserved c =
-    sym (after_eight _ _ (sym c.are_eight_sure.ensures ∙ c.loop-i-test.true)) ∙ c.loop-i.invariant
+    let s = sym c.are_eight_sure.ensures ∙ c.loop-i-test.true in
+    record {
+      within = λ h. (eight_small _ _ s).0;
+      same = sym (after_eight _ _ s) ∙ c.loop-i.invariant.same;
+    }

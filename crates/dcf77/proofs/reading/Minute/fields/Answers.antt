@@ -22,7 +22,7 @@ returns c =
     let m = c.args.self.now.run.marks.now in
     rw (binary_split m 8 6 1)
     (simp (
-      c.announced_time.ensures,
+      c.announced_time-time.ensures,
       c.eight.ensures,
       c.eight-2.ensures,
       binary_first m c.args.self.now.run.is_sure.sure 6 2 9,

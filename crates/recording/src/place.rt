@@ -1,0 +1,133 @@
+// A place of a recording: the number that the rule gives it, and outcomes brought up to date after its mark has changed.
+ghost use Rattle.std.specs.Prelude.{◌≡◌, ◌+◌, ◌<◌, ◌≤◌, length, get_or, set};
+ghost use Rattle.dcf77_outcome.specs.Number.{run_number};
+ghost use Rattle.recording.specs.Gaps.{gap_before, gap_after, gap_of};
+ghost use Rattle.recording.specs.Outcomes.{differ, differences, numbers};
+ghost use Rattle.recording.specs.Rule.{run_between};
+ghost use Rattle.recording.specs.Recording.{rule, updated};
+
+use crate::gaps;
+use clock_time::Error;
+use dcf77::marks::GAP;
+
+// A place, with the nearest gap before it.
+#[derive(Clone, Copy)]
+pub(crate) struct Place<'a> {
+    marks: &'a [u8],
+    place: usize,
+    before: Option<usize>,
+    ghost is_there: { place < length marks.now },
+    ghost is_nearest: { gap_of before ≡ gap_before marks.now place },
+}
+
+// The number of the run between two places.
+fn number_between(marks: &[u8], earlier: usize, place: usize) -> u32
+    requires { (earlier < place) × (place ≤ length marks.now) }
+    ensures { result ≡ run_number (run_between marks.now earlier place) }
+{
+    let first = earlier + 1;
+    dcf77_outcome::run_number(&marks[first..place])
+}
+
+impl<'a> Place<'a> {
+    // A place, for which the gap before it is looked for.
+    pub(crate) fn new(marks: &'a [u8], place: usize) -> Place<'a>
+        requires { place < length marks.now }
+        ensures marks { result.marks.now ≡ marks.now }
+        ensures place { result.place ≡ place }
+    {
+        Place {
+            marks,
+            place,
+            before: gaps::gap_before(marks, place),
+        }
+    }
+
+    // The nearest gap up to the place: the place itself if it is one, else the nearest before it.
+    fn gap_up_to(&self) -> Option<usize>
+        ensures { gap_of result ≡ gap_before self.now.marks.now (self.now.place + 1) }
+    {
+        if self.marks[self.place] == GAP {
+            Some(self.place)
+        } else {
+            self.before
+        }
+    }
+
+    // The number at the place.
+    pub(crate) fn number(&self) -> u32
+        ensures { result ≡ rule self.now.marks.now self.now.place }
+    {
+        if self.marks[self.place] != GAP {
+            return 0;
+        }
+        match self.before {
+            Some(earlier) => number_between(self.marks, earlier, self.place),
+            None => u32::from(u8::from(Error::NoEarlierGap)),
+        }
+    }
+
+    // Puts the rule's number at the place of the outcomes, and says by 1 that it is another one than before.
+    fn renew(&self, outcomes: &mut [u32]) -> usize
+        requires { length self.now.marks.now ≡ length outcomes.old }
+        ensures outcomes { outcomes.new
+            ≡ set outcomes.old self.now.place (rule self.now.marks.now self.now.place) }
+        ensures count { result
+            ≡ differ (get_or outcomes.old self.now.place 0) (rule self.now.marks.now self.now.place) }
+    {
+        let new = self.number();
+        let old = outcomes[self.place];
+        outcomes[self.place] = new;
+        usize::from(old != new)
+    }
+
+    // Brings outcomes up to date after a change of the mark at the place, and counts the numbers that differ. No number
+    // after the next gap depends on that mark, and no gap lies between the two, so the gap before them is looked for
+    // once.
+    pub(crate) fn update(&self, outcomes: &mut [u32]) -> usize
+        requires { length self.now.marks.now ≡ length outcomes.old }
+        ensures outcomes { outcomes.new ≡ updated self.now.marks.now outcomes.old self.now.place }
+        ensures count { result ≡ differences outcomes.old (updated self.now.marks.now outcomes.old self.now.place) }
+    {
+        let here = self.renew(outcomes);
+        match gaps::gap_after(self.marks, self.place) {
+            Some(gap) => {
+                let next = Place {
+                    marks: self.marks,
+                    place: gap,
+                    before: self.gap_up_to(),
+                };
+                here + next.renew(outcomes)
+            }
+            None => here,
+        }
+    }
+}
+
+// The number at a place. The gap before it is looked for only if the place is a gap.
+pub(crate) fn number_at(marks: &[u8], place: usize) -> u32
+    requires { place < length marks.now }
+    ensures { result ≡ rule marks.now place }
+{
+    if marks[place] != GAP {
+        return 0;
+    }
+    Place::new(marks, place).number()
+}
+
+// Puts every place's number into outcomes, in one pass: the last gap seen is kept, and not looked for again.
+pub(crate) fn fill(marks: &[u8], outcomes: &mut [u32])
+    requires { length marks.now ≡ length outcomes.old }
+    ensures { outcomes.new ≡ numbers (rule marks.now) (length marks.now) }
+{
+    let mut last = None;
+    for (i, outcome) in outcomes.iter_mut().enumerate() {
+        let place = Place {
+            marks,
+            place: i,
+            before: last,
+        };
+        *outcome = place.number();
+        last = place.gap_up_to();
+    }
+}

@@ -2,6 +2,7 @@
 #![tactic(auto)]
 
 ghost use Rattle.std.specs.Prelude.{◌≡◌, false};
+ghost use Rattle.std.proofs.Common.{lit<};
 ghost use Rattle.clock_time.specs.Reading.{answer_of};
 ghost use Rattle.layout.specs.Layout.{FitsLayout};
 ghost use Rattle.elv_dcf7000.specs.Elv.{elv_layout, elv_flag_fault, sent_fields, elv, read_elv};
@@ -17,6 +18,8 @@ impl StringFormat<21> for Elv {
     type Value = ClockTime;
 
     ghost format = { elv };
+
+    ghost short = { lit< tt };
 
     fn pattern() -> &'static [u8; 21] {
         b"00-00-00-00-00-00-00\r"

@@ -25,11 +25,13 @@ pub trait StringFormat<const N: usize> {
     fn read_fitting(s: &[u8; N]) -> Result<Self::Value, Error>
         requires { FitsLayout format.layout s.now }
         ensures { answer_of result ≡ read_text format s.now };
+
+    // No string is longer than memory.
+    ghost short: { N < 2 ^ 63 };
 }
 
 // Reads a string of a format. One that does not fit is refused with the error of its layout.
 pub fn read<const N: usize, F: StringFormat<N>>(s: &[u8]) -> Result<F::Value, Error>
-    requires { N < 2 ^ 63 }
     ensures { answer_of result ≡ read_text F.format s.now }
 {
     let pattern: &[u8] = F::pattern();

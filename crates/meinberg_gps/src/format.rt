@@ -1,4 +1,5 @@
 // The format of GPS strings.
+ghost use Rattle.std.proofs.Common.{lit<};
 ghost use Rattle.std.specs.Prelude.{◌≡◌, true};
 ghost use Rattle.clock_time.specs.Lists.{slice};
 ghost use Rattle.layout.specs.Layout.{fits_from};
@@ -16,6 +17,8 @@ impl StringFormat<66> for Gps {
     type Value = GpsTime;
 
     ghost format = { gps };
+
+    ghost short = { lit< tt };
 
     fn pattern() -> &'static [u8; 66] {
         b"\x0200.00.00; 0; 00:00:00; ?00:00; uvxyzab; ??.????? ???.????? ????m\x03"

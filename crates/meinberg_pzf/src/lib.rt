@@ -2,6 +2,7 @@
 #![tactic(auto)]
 
 ghost use Rattle.std.specs.Prelude.{◌≡◌};
+ghost use Rattle.std.proofs.Common.{lit<};
 ghost use Rattle.clock_time.specs.Reading.{answer_of};
 ghost use Rattle.layout.specs.Layout.{FitsLayout};
 ghost use Rattle.meinberg_pzf.specs.Pzf.{pzf_layout, pzf_offset, pzf_fields, pzf, read_pzf};
@@ -17,6 +18,8 @@ impl StringFormat<32> for Pzf {
     type Value = ClockTime;
 
     ghost format = { pzf };
+
+    ghost short = { lit< tt };
 
     fn pattern() -> &'static [u8; 32] {
         b"\x0200.00.00; 0; 00:00:00; tuvxyza\x03"

@@ -2,6 +2,7 @@
 #![tactic(auto)]
 
 ghost use Rattle.std.specs.Prelude.{◌≡◌};
+ghost use Rattle.std.proofs.Common.{lit<};
 ghost use Rattle.clock_time.specs.Reading.{answer_of};
 ghost use Rattle.layout.specs.Layout.{FitsLayout};
 ghost use Rattle.meinberg_standard.specs.Standard.{standard_layout, standard_zone, standard_fields, standard};
@@ -18,6 +19,8 @@ impl StringFormat<32> for Standard {
     type Value = ClockTime;
 
     ghost format = { standard };
+
+    ghost short = { lit< tt };
 
     fn pattern() -> &'static [u8; 32] {
         b"\x02D:00.00.00;T:0;U:00.00.00;uvXY\x03"

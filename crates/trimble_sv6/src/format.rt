@@ -1,4 +1,5 @@
 // The format of Trimble strings.
+ghost use Rattle.std.proofs.Common.{lit<};
 ghost use Rattle.std.specs.Prelude.{◌≡◌, true, [], ◌∷◌};
 ghost use Rattle.layout.specs.Layout.{digit, free, printable, places, fits_from};
 ghost use Rattle.trimble_sv6.specs.Trimble.{trimble};
@@ -15,6 +16,8 @@ impl StringFormat<37> for Trimble {
     type Value = TrimbleTime;
 
     ghost format = { trimble };
+
+    ghost short = { lit< tt };
 
     fn pattern() -> &'static [u8; 37] {
         b">RTM0000000000000000000000?rrrrr;*??<"

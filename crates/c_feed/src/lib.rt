@@ -9,7 +9,7 @@ ghost use Rattle.c_feed.specs.Feed.{mode_number, mode_of, framer_in, state_bytes
 use clock_time::Error;
 use framing::{Event, Framer, Mode};
 
-// How many bytes a call took, and the number of what the last of them ended.
+// How many bytes a call took, and the number of what the last of them ended: C has the event as a number.
 #[derive(Clone, Copy, Debug, PartialEq, Eq, Hash, Drop)]
 pub struct Fed {
     pub taken: usize,

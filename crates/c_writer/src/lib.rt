@@ -26,7 +26,7 @@ fn write_as(kind: Kind, fields: &[i32], out: &mut [u8]) -> Result<usize, Error>
 
 // Writes the numbers of a reading to the front of `out`, as a string of the kind that `kind` names. Refuses with Length
 // (1) if it names none, with Unrepresentable (23) if no such string is read as the numbers, then with LentMemory (20)
-// if there is no room.
+// if there is no room. The kind is a number, as C names it, since it may name none.
 #[tactic(auto, unfolding(crate::specs::Writers::write_from))]
 pub fn write_string(kind: u8, fields: &[i32], out: &mut [u8]) -> Result<usize, Error>
     ensures { written result out.new ≡ write_from kind fields.now out.old }

@@ -1,4 +1,4 @@
-// What C gets of a call: a status, which is 0 or the number of the refusal, and what is left in the memory that it lent.
+// What C gets of a call: a status, which is 0 or the number of the refusal, and what is left in the memory lent.
 ghost use Rattle.std.specs.Prelude.{◌≡◌};
 ghost use Rattle.clock_time.specs.Called.{status_of, called, called_answer};
 ghost use Rattle.clock_time.specs.Reading.{answer_of};

@@ -18,14 +18,16 @@ fn unix_time(t: ClockTime) -> Result<i64, Error>
 
 fn day_number(date: Date) -> Result<u32, Error>
     ensures demand_1 { RefusesInOrder (date_lines date.year date.month date.day) (5 ∷ []) (answer_of result) }
-    ensures answer { ReadsExactly (λ n. DayAfter n date.year date.month date.day × (date.year ≤ 2069)) (answer_of result) }
+    ensures answer { ReadsExactly (λ n. DayAfter n date.year date.month date.day × (date.year ≤ 2069))
+        (answer_of result) }
 {
     calendar::date::day_number(date)
 }
 
 fn weekday_of(date: Date) -> Result<u32, Error>
     ensures demand_1 { RefusesInOrder (date_lines date.year date.month date.day) (5 ∷ []) (answer_of result) }
-    ensures answer { ReadsExactly (λ w. OnWeekday date.year date.month date.day w × (date.year ≤ 2069)) (answer_of result) }
+    ensures answer { ReadsExactly (λ w. OnWeekday date.year date.month date.day w × (date.year ≤ 2069))
+        (answer_of result) }
 {
     calendar::date::weekday_of(date)
 }

@@ -18,11 +18,11 @@ ghost use Rattle.demands.specs.Lines.{write_lines, writer_lines};
 ghost use Rattle.demands.specs.Accepted.{AcceptsNumbers, AcceptsMinuteNumbers};
 ghost use Rattle.demands.specs.Exactly.{ReadsExactly, WritesExactly};
 
-use dcf77::MinuteTime;
-use meinberg_gps::GpsTime;
 use c_fields::FromNumbers;
 use clock_time::{ClockTime, Error, Position};
+use dcf77::MinuteTime;
 use listing_lines::Totals;
+use meinberg_gps::GpsTime;
 
 fn write_string(kind: u8, fields: &[i32], out: &mut [u8]) -> Result<usize, Error>
     ensures demand_1 { RefusesAndKeeps (write_lines kind fields.now out.old) (1 ∷ 23 ∷ 20 ∷ []) out.old
@@ -43,15 +43,18 @@ fn write_marks(fields: &[i32], out: &mut [u8]) -> Result<usize, Error>
 }
 
 fn check_clock(t: ClockTime, mismatch: bool) -> Result<ClockTime, Error>
-    ensures demand_1 { RefusesInOrder (tests (clock_checks (supported_day t) t mismatch)) (5 ∷ 6 ∷ 7 ∷ []) (answer_of result) }
+    ensures demand_1 { RefusesInOrder (tests (clock_checks (supported_day t) t mismatch)) (5 ∷ 6 ∷ 7 ∷ [])
+        (answer_of result) }
     ensures answer { answer_of result ≡ checked (clock_checks (supported_day t) t mismatch) t }
 {
     layout::check_clock(t, mismatch)
 }
 
 fn check_without_weekday(t: ClockTime) -> Result<ClockTime, Error>
-    ensures demand_1 { RefusesInOrder (tests (clock_checks (supported_day t) (with_weekday t) false)) (5 ∷ 6 ∷ 7 ∷ []) (answer_of result) }
-    ensures answer { answer_of result ≡ checked (clock_checks (supported_day t) (with_weekday t) false) (with_weekday t) }
+    ensures demand_1 { RefusesInOrder (tests (clock_checks (supported_day t) (with_weekday t) false)) (5 ∷ 6 ∷ 7 ∷ [])
+        (answer_of result) }
+    ensures answer { answer_of result
+        ≡ checked (clock_checks (supported_day t) (with_weekday t) false) (with_weekday t) }
 {
     layout::check_without_weekday(t)
 }
@@ -64,21 +67,24 @@ fn read_position(s: &[u8]) -> Result<Position, Error>
 }
 
 fn first_time_of(z: &[i32]) -> Result<ClockTime, Error>
-    ensures demand_1 { RefusesInOrder (tests (given 23 (not (fits time_ranges z.now)) ∷ [])) (23 ∷ []) (answer_of result) }
+    ensures demand_1 { RefusesInOrder (tests (given 23 (not (fits time_ranges z.now)) ∷ [])) (23 ∷ [])
+        (answer_of result) }
     ensures answer { answer_of result ≡ first_time_of z.now }
 {
     c_fields::first_time_of(z)
 }
 
 fn time_of(z: &[i32]) -> Result<ClockTime, Error>
-    ensures demand_1 { RefusesInOrder (tests (given 23 (not (fits_all time_ranges z.now)) ∷ [])) (23 ∷ []) (answer_of result) }
+    ensures demand_1 { RefusesInOrder (tests (given 23 (not (fits_all time_ranges z.now)) ∷ [])) (23 ∷ [])
+        (answer_of result) }
     ensures answer { answer_of result ≡ time_of z.now }
 {
     ClockTime::from_numbers(z)
 }
 
 fn gps_of(z: &[i32]) -> Result<GpsTime, Error>
-    ensures demand_1 { RefusesInOrder (tests (given 23 (not (fits_all gps_ranges z.now)) ∷ [])) (23 ∷ []) (answer_of result) }
+    ensures demand_1 { RefusesInOrder (tests (given 23 (not (fits_all gps_ranges z.now)) ∷ [])) (23 ∷ [])
+        (answer_of result) }
     ensures answer { answer_of result ≡ gps_of z.now }
 {
     GpsTime::from_numbers(z)

@@ -13,7 +13,6 @@ ghost use Rattle.demands.specs.Exactly.{ReadsExactly};
 
 use clock_time::Error;
 
-
 fn outcome_at(marks: &[u8], place: usize) -> Result<u32, Error>
     ensures demand_1 { RefusesInOrder (outcome_lines marks.now place) (20 ∷ 21 ∷ []) (answer_of result) }
     ensures rule { ReadsExactly (OutcomeAt marks.now place) (answer_of result) }
@@ -36,7 +35,12 @@ fn fill_outcomes(marks: &[u8], outcomes: &mut [u32]) -> Result<(), Error>
     recording::fill_outcomes(marks, outcomes)
 }
 
-fn correct_mark(marks: &mut [u8], outcomes: &mut [u32], place: usize, mark: u8) -> Result<usize, Error>
+fn correct_mark(
+    marks: &mut [u8],
+    outcomes: &mut [u32],
+    place: usize,
+    mark: u8,
+) -> Result<usize, Error>
     ensures demand_1 { RefusesAndKeeps (correction_lines marks.old outcomes.old place mark) (20 ∷ 21 ∷ 22 ∷ [])
         (recorded marks.old outcomes.old)
         (correction result marks.new outcomes.new) }

@@ -9,9 +9,8 @@ ghost use Rattle.demands.specs.Refusals.{RefusesInOrder, CallRefusesAndKeeps};
 ghost use Rattle.demands.specs.Trimble.{read_trimble_lines};
 ghost use Rattle.demands.specs.Exactly.{ReadsExactly, CallReadsExactly};
 
-use trimble_sv6::TrimbleTime;
 use clock_time::Error;
-
+use trimble_sv6::TrimbleTime;
 
 fn read_trimble(s: &[u8]) -> Result<TrimbleTime, Error>
     ensures demand_1 { RefusesInOrder (trimble_lines s.now) trimble_order (answer_of result) }

@@ -11,10 +11,11 @@ ghost use Rattle.layout_words.specs.Words.{four_numbers_at, flags_fit, nonzero_b
 fn join(bytes: [u8; 8]) -> u64
     ensures { result ≡ word bytes }
 {
-    u64::from_le_bytes(bytes)
+    bits::join_eight(bytes)
 }
 
-// The number of the eight bytes from a place on, the first the lowest; 0 if eight are not there.
+// The number of the eight bytes from a place on, the first the lowest; 0 if eight are not there, and no Option: the
+// definition `enough` takes all bytes for 0 then, and a test of it would cost each reader one.
 pub fn word_at(s: &[u8], at: usize) -> u64
     ensures { result ≡ word (slice at 8 (enough at s.now)) }
 {

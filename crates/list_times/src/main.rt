@@ -80,7 +80,7 @@ fn write_lines(
 }
 
 // Reads once from the input, and answers how many bytes came: none at the input's end, and if the read fails, which it
-// says by the input's name.
+// says by the input's name: the listing ends either way.
 fn read_some<I: Read>(rt: &HostRuntime, input: &mut I, name: &[u8], buf: &mut [u8; 65536]) -> usize
     ensures { IsPrefixLen result buf.new }
 {

@@ -5,4 +5,4 @@ use Rattle.layout_words.proofs.join.Goals as goal
 
 pub returns : goal.returns
 unfolding word
-returns c = omega (arith, ap word (slice_known 8 c.args.bytes (omega arith)), c.from_le_bytes.ensures)
+returns c = omega (arith, ap word (slice_known 8 c.args.bytes (omega arith)), c.join_eight.ensures)

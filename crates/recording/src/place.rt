@@ -3,7 +3,7 @@ ghost use Rattle.std.specs.Prelude.{◌≡◌, ◌+◌, ◌<◌, ◌≤◌, leng
 ghost use Rattle.dcf77_outcome.specs.Number.{run_number};
 ghost use Rattle.recording.specs.Gaps.{gap_before, gap_after, gap_of};
 ghost use Rattle.recording.specs.Outcomes.{differ, differences, numbers};
-ghost use Rattle.recording.specs.Rule.{run_between};
+ghost use Rattle.recording.specs.Rule.{run_between, gap_number};
 ghost use Rattle.recording.specs.Recording.{rule, updated};
 
 use crate::gaps;
@@ -27,6 +27,17 @@ fn number_between(marks: &[u8], earlier: usize, place: usize) -> u32
 {
     let first = earlier + 1;
     dcf77_outcome::run_number(&marks[first..place])
+}
+
+// The number at a gap, from the nearest gap before it.
+fn number_at_gap(marks: &[u8], place: usize, before: Option<usize>) -> u32
+    requires { (place ≤ length marks.now) × (gap_of before ≡ gap_before marks.now place) }
+    ensures { result ≡ gap_number run_number marks.now place (gap_of before) }
+{
+    match before {
+        Some(earlier) => number_between(marks, earlier, place),
+        None => u32::from(u8::from(Error::NoEarlierGap)),
+    }
 }
 
 impl<'a> Place<'a> {
@@ -61,10 +72,7 @@ impl<'a> Place<'a> {
         if self.marks[self.place] != GAP {
             return 0;
         }
-        match self.before {
-            Some(earlier) => number_between(self.marks, earlier, self.place),
-            None => u32::from(u8::from(Error::NoEarlierGap)),
-        }
+        number_at_gap(self.marks, self.place, self.before)
     }
 
     // Puts the rule's number at the place of the outcomes, and says by 1 that it is another one than before.
@@ -122,12 +130,15 @@ pub(crate) fn fill(marks: &[u8], outcomes: &mut [u32])
 {
     let mut last = None;
     for (i, outcome) in outcomes.iter_mut().enumerate() {
-        let place = Place {
-            marks,
-            place: i,
-            before: last,
-        };
-        *outcome = place.number();
-        last = place.gap_up_to();
+        *outcome = 0;
+        if marks[i] == GAP {
+            let gap = Place {
+                marks,
+                place: i,
+                before: last,
+            };
+            *outcome = gap.number();
+            last = Some(i);
+        }
     }
 }

@@ -8,9 +8,10 @@ use lib.ListN.{length, get_or, drop, set, length-set}
 use Rattle.dcf77_outcome.specs.Number.{run_number}
 use Rattle.recording.specs.Gaps.{gap_before}
 use Rattle.recording.specs.Outcomes.{numbers}
+use Rattle.recording.specs.Rule.{gap_number}
 use Rattle.recording.specs.Recording.{rule}
 use Rattle.recording.proofs.GapLaws.{before_start, before_gap, before_more}
-use Rattle.recording.proofs.RuleLaws.{rule_none}
+use Rattle.recording.proofs.RuleLaws.{rule_none, rule_gap}
 use Rattle.recording.proofs.OutcomeLaws.{fill_start, fill_more, fill_end}
 
 -- outcomes o₀ were lent for marks m; o is what the places before i have been made, and g the gap that is kept
@@ -43,8 +44,11 @@ module _ {m o₀ o : List ℕ} {g : Option ℕ} {i : ℕ} (f : Filled m o₀ o g
         done = fill_more (rule m) o₀ o i r (omega (arith, f.lent)) f.done e;
       }
 
-  pub filled_gap : {r : ℕ} → i < length m → get_or m i 0 ≡ 2 → r ≡ rule m i → Filled m o₀ (set o i r) (some i) (i + 1)
-  filled_gap {r} h e q = more r (some i) h q (sym (before_gap m (i + 1) i (omega arith) e))
+  pub filled_gap : {r : ℕ} → i < length m → get_or m i 0 ≡ 2 → r ≡ gap_number run_number m i g
+      → Filled m o₀ (set o i r) (some i) (i + 1)
+  filled_gap {r} h e q =
+      more r (some i) h (q ∙ sym (rule_gap run_number m i g e (sym f.last)))
+      (sym (before_gap m (i + 1) i (omega arith) e))
 
   pub filled_none : i < length m → (get_or m i 0 ≡ 2 → ⊥) → Filled m o₀ (set o i 0) g (i + 1)
   filled_none h n =

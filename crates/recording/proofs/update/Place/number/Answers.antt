@@ -1,6 +1,6 @@
 use mathlib.Core.Path.{sym, ◌∙◌}
 use Rattle.recording.proofs.RuleLaws.{rule_none, rule_gap}
-use Rattle.recording.proofs.place.Place.number.Goals as goal
+use Rattle.recording.proofs.update.Place.number.Goals as goal
 
 pub returns-then-self-ne-GAP : goal.returns-then-self-ne-GAP
 returns-then-self-ne-GAP c = sym (rule_none _ _ _ c.if-self-ne-GAP.true)

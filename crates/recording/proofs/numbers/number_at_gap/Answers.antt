@@ -1,7 +1,7 @@
 use mathlib.Core.Path.{sym, ap, ◌∙◌}
 use Rattle.recording.specs.Gaps.{gap_of}
 use Rattle.recording.proofs.GapLaws.{before_is_nearest}
-use Rattle.recording.proofs.place.number_at_gap.Goals as goal
+use Rattle.recording.proofs.numbers.number_at_gap.Goals as goal
 
 pub number_between-requires : goal.number_between-requires
 number_between-requires c =

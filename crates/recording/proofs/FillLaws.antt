@@ -3,12 +3,15 @@ use Prim.Native.Nat.{ℕ, ◌+◌, ◌<◌, ◌≤◌, zero-le}
 use native.Mathlib.Omega.{arith}
 use mathlib.Core.Path.{◌≡◌, refl, sym, ◌∙◌}
 use mathlib.Core.List.{List, ◌++◌}
-use mathlib.Core.Option.{Option, none}
-use lib.ListN.{length, drop, set, length-set}
+use mathlib.Core.Option.{Option, none, some}
+use lib.ListN.{length, get_or, drop, set, length-set}
+use Rattle.dcf77_outcome.specs.Number.{run_number}
 use Rattle.recording.specs.Gaps.{gap_before}
 use Rattle.recording.specs.Outcomes.{numbers}
+use Rattle.recording.specs.Rule.{gap_number}
 use Rattle.recording.specs.Recording.{rule}
-use Rattle.recording.proofs.GapLaws.{before_start}
+use Rattle.recording.proofs.GapLaws.{before_start, before_gap, before_more}
+use Rattle.recording.proofs.RuleLaws.{rule_none, rule_gap}
 use Rattle.recording.proofs.OutcomeLaws.{fill_start, fill_more, fill_end}
 
 -- outcomes o₀ were lent for marks m; o is what the places before i have been made, and g the gap that is kept
@@ -30,9 +33,9 @@ filled_start m o h =
     }
 
 module _ {m o₀ o : List ℕ} {g : Option ℕ} {i : ℕ} (f : Filled m o₀ o g i) where
-  pub filled_more : (r : ℕ) (k : Option ℕ) → i < length m → r ≡ rule m i → k ≡ gap_before m (i + 1)
+  more : (r : ℕ) (k : Option ℕ) → i < length m → r ≡ rule m i → k ≡ gap_before m (i + 1)
       → Filled m o₀ (set o i r) k (i + 1)
-  filled_more r k h e q =
+  more r k h e q =
       record {
         within = omega arith;
         lent = f.lent;
@@ -40,6 +43,16 @@ module _ {m o₀ o : List ℕ} {g : Option ℕ} {i : ℕ} (f : Filled m o₀ o g
         last = q;
         done = fill_more (rule m) o₀ o i r (omega (arith, f.lent)) f.done e;
       }
+
+  pub filled_gap : {r : ℕ} → i < length m → get_or m i 0 ≡ 2 → r ≡ gap_number run_number m i g
+      → Filled m o₀ (set o i r) (some i) (i + 1)
+  filled_gap {r} h e q =
+      more r (some i) h (q ∙ sym (rule_gap run_number m i g e (sym f.last)))
+      (sym (before_gap m (i + 1) i (omega arith) e))
+
+  pub filled_none : i < length m → (get_or m i 0 ≡ 2 → ⊥) → Filled m o₀ (set o i 0) g (i + 1)
+  filled_none h n =
+      more 0 g h (sym (rule_none run_number m i n)) (f.last ∙ sym (before_more m (i + 1) i (omega arith) n))
 
   pub filled_end : length m ≤ i → o ≡ numbers (rule m) (length m)
   filled_end h =

@@ -8,10 +8,11 @@ ghost use Rattle.recording.specs.Recording.{outcome_at, unfit, filling, fill_out
 ghost use Rattle.recording.specs.Recording.{correction, correct_mark};
 
 use clock_time::Error;
-use place::Place;
+use update::Place;
 
 mod gaps;
-mod place;
+mod numbers;
+mod update;
 
 // The most marks that a recording may have.
 const LONGEST: usize = 100000;
@@ -35,7 +36,7 @@ pub fn outcome_at(marks: &[u8], place: usize) -> Result<u32, Error>
         return Err(Error::LentMemory);
     }
     check_place(marks.len(), place)?;
-    Ok(place::number_at(marks, place))
+    Ok(numbers::number_at(marks, place))
 }
 
 // Refuses with LentMemory (20) if so many outcomes cannot be those of so many marks.
@@ -54,7 +55,7 @@ pub fn fill_outcomes(marks: &[u8], outcomes: &mut [u32]) -> Result<(), Error>
     ensures { filling result outcomes.new ≡ fill_outcomes marks.now outcomes.old }
 {
     check_fit(marks.len(), outcomes.len())?;
-    place::fill(marks, outcomes);
+    numbers::fill(marks, outcomes);
     Ok(())
 }
 

@@ -1,13 +1,10 @@
-// A place of a recording: the number that the rule gives it, and outcomes brought up to date after its mark has changed.
-ghost use Rattle.std.specs.Prelude.{◌≡◌, ◌+◌, ◌<◌, ◌≤◌, length, get_or, set};
-ghost use Rattle.dcf77_outcome.specs.Number.{run_number};
-ghost use Rattle.recording.specs.Gaps.{gap_before, gap_after, gap_of};
-ghost use Rattle.recording.specs.Outcomes.{differ, differences, numbers};
-ghost use Rattle.recording.specs.Rule.{run_between};
+// Outcomes brought up to date after a mark has changed.
+ghost use Rattle.std.specs.Prelude.{◌≡◌, ◌+◌, ◌<◌, length, get_or, set};
+ghost use Rattle.recording.specs.Gaps.{gap_before, gap_of};
+ghost use Rattle.recording.specs.Outcomes.{differ, differences};
 ghost use Rattle.recording.specs.Recording.{rule, updated};
 
-use crate::gaps;
-use clock_time::Error;
+use crate::{gaps, numbers};
 use dcf77::marks::GAP;
 
 // A place, with the nearest gap before it.
@@ -18,15 +15,6 @@ pub(crate) struct Place<'a> {
     before: Option<usize>,
     ghost is_there: { place < length marks.now },
     ghost is_nearest: { gap_of before ≡ gap_before marks.now place },
-}
-
-// The number of the run between two places.
-fn number_between(marks: &[u8], earlier: usize, place: usize) -> u32
-    requires { (earlier < place) × (place ≤ length marks.now) }
-    ensures { result ≡ run_number (run_between marks.now earlier place) }
-{
-    let first = earlier + 1;
-    dcf77_outcome::run_number(&marks[first..place])
 }
 
 impl<'a> Place<'a> {
@@ -55,16 +43,13 @@ impl<'a> Place<'a> {
     }
 
     // The number at the place.
-    pub(crate) fn number(&self) -> u32
+    fn number(&self) -> u32
         ensures { result ≡ rule self.now.marks.now self.now.place }
     {
         if self.marks[self.place] != GAP {
             return 0;
         }
-        match self.before {
-            Some(earlier) => number_between(self.marks, earlier, self.place),
-            None => u32::from(u8::from(Error::NoEarlierGap)),
-        }
+        numbers::number_at_gap(self.marks, self.place, self.before)
     }
 
     // Puts the rule's number at the place of the outcomes, and says by 1 that it is another one than before.
@@ -101,33 +86,5 @@ impl<'a> Place<'a> {
             }
             None => here,
         }
-    }
-}
-
-// The number at a place. The gap before it is looked for only if the place is a gap.
-pub(crate) fn number_at(marks: &[u8], place: usize) -> u32
-    requires { place < length marks.now }
-    ensures { result ≡ rule marks.now place }
-{
-    if marks[place] != GAP {
-        return 0;
-    }
-    Place::new(marks, place).number()
-}
-
-// Puts every place's number into outcomes, in one pass: the last gap seen is kept, and not looked for again.
-pub(crate) fn fill(marks: &[u8], outcomes: &mut [u32])
-    requires { length marks.now ≡ length outcomes.old }
-    ensures { outcomes.new ≡ numbers (rule marks.now) (length marks.now) }
-{
-    let mut last = None;
-    for (i, outcome) in outcomes.iter_mut().enumerate() {
-        let place = Place {
-            marks,
-            place: i,
-            before: last,
-        };
-        *outcome = place.number();
-        last = place.gap_up_to();
     }
 }

@@ -5,7 +5,7 @@ use Rattle.recording.specs.Gaps.{gap_of}
 use Rattle.recording.proofs.GapLaws.{after_in, before_first}
 use Rattle.recording.proofs.OutcomeLaws.{differ_le}
 use Rattle.recording.proofs.RecordingLaws.{update_none, update_gap}
-use Rattle.recording.proofs.place.Place.update.Goals as goal
+use Rattle.recording.proofs.update.Place.update.Goals as goal
 
 pub invariant_of-next : goal.invariant_of-next
 invariant_of-next c =

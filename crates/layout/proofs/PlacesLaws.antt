@@ -22,7 +22,8 @@ same_error a b = go (sameb the_type a b) refl
   where
     go : (t : Bool) → sameb the_type a b ≡ t → t ≡ eqb (error_number a) (error_number b)
     go true h = sym (eq-eqb _ _ (ap error_number (same_true the_type tt a b h)))
-    go false h = sym (ne_eqb _ _ (λ e. same_false the_type a b h (sym (error_of_number a) ∙ ap error_of e ∙ error_of_number b)))
+    go false h =
+        sym (ne_eqb _ _ (λ e. same_false the_type a b h (sym (error_of_number a) ∙ ap error_of e ∙ error_of_number b)))
 
 -- no error's number is 0
 numbered : (e : Error) → error_number e ≡ 0 → ⊥

@@ -30,13 +30,11 @@ pub fn word_at(s: &[u8], at: usize) -> u64
 fn by_sample(p: u8, digit: u8, any: u8, fixed: u8) -> u8
     ensures { result ≡ by_sample digit any fixed p }
 {
-    if p == b'0' {
-        return digit;
+    match p {
+        b'0' => digit,
+        b'?' => any,
+        _ => fixed,
     }
-    if p == b'?' {
-        return any;
-    }
-    fixed
 }
 
 // Eight bytes side by side, one for each of a sample's: `digit` for a digit, `any` for any byte, `fixed` for one that
@@ -101,7 +99,8 @@ pub fn numbers_at(s: &[u8], at: usize) -> [u8; 3]
     [pairs[0], pairs[3], pairs[6]]
 }
 
-// The numbers of four pairs of digits from a place on, one after another; 0 if there are no eight bytes.
+// The numbers of four pairs of digits from a place on, one after another; 0 if there are no eight bytes. With a count
+// and a distance as const parameters, it and `numbers_at` would be one loop, which is no plainer than a line for each.
 #[tactic(auto, unfolding(crate::specs::Words::four_numbers_at, crate::specs::Words::four_numbers))]
 pub fn four_numbers_at(s: &[u8], at: usize) -> [u8; 4]
     ensures { result ≡ four_numbers_at at s.now }

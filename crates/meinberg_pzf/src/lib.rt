@@ -41,12 +41,10 @@ pub fn offset_of(utc: bool, summer: bool) -> i16
     ensures { result ≡ pzf_offset utc summer }
 {
     if utc {
-        return 0;
+        0
+    } else {
+        clock_time::cet_offset(summer)
     }
-    if summer {
-        return 120;
-    }
-    60
 }
 
 fn fields(s: &[u8; 32]) -> ClockTime

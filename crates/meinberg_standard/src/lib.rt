@@ -27,8 +27,8 @@ impl StringFormat<32> for Standard {
         layout_words::eight_fit(s, 0, *b"\x02D:00.00")
             & layout_words::eight_fit(s, 8, *b".00;T:0;")
             & layout_words::eight_fit(s, 16, *b"U:00.00.")
-            & ((48 <= s[24]) & (s[24] <= 57))
-            & ((48 <= s[25]) & (s[25] <= 57))
+            & decimal::is_digit(s[24])
+            & decimal::is_digit(s[25])
             & (s[26] == b';')
             & ((s[27] == b' ') | (s[27] == b'#'))
             & ((s[28] == b' ') | (s[28] == b'*'))
@@ -49,12 +49,10 @@ pub fn zone_offset(letter: u8) -> i16
     ensures { result ≡ standard_zone letter }
 {
     if letter == b'U' {
-        return 0;
+        0
+    } else {
+        clock_time::cet_offset(letter == b'S')
     }
-    if letter == b'S' {
-        return 120;
-    }
-    60
 }
 
 fn fields(s: &[u8; 32]) -> ClockTime

@@ -10,11 +10,14 @@ pub returns : goal.returns
 unfolding sample_fits
 returns c =
     let sample = c.args.sample in
+    let at = c.args.at in
+    let s = c.args.s.now in
+    let bytes = bytes_enough at s (λ i. omega (arith, c.type_inv.s i)) in
+    let tests = bytes_of (slice 0 8 sample) (each_byte 8 0 sample (λ i. search rules)) in
     simp (
       c.join_by_sample-high.ensures,
       c.join_by_sample-more.ensures,
       c.join.ensures,
       c.word_at.ensures,
     )
-    (rw (slice_known 8 sample (omega arith)) (test_word (bytes_of (slice 0 8 sample) (each_byte 8 0 sample (λ i. search rules))) (enough c.args.at c.args.s.now) c.args.at
-    (bytes_enough c.args.at c.args.s.now (λ i. omega (arith, c.type_inv.s i)))))
+    (rw (slice_known 8 sample (omega arith)) (test_word tests (enough at s) at bytes))

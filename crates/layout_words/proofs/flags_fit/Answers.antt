@@ -10,7 +10,9 @@ pub returns : goal.returns
 unfolding flags_fit
 returns c =
     let letters = slice 0 7 c.args.letters in
+    let at = c.args.at in
+    let s = c.args.s.now in
+    let bytes = bytes_enough at s (λ i. omega (arith, c.type_inv.s i)) in
+    let small = bytes_of letters (each_byte 7 0 c.args.letters (λ i. search rules)) in
     rw (slice_known 7 c.args.letters (omega arith))
-    (cc (flag_word letters (enough c.args.at c.args.s.now) c.args.last c.args.at (bytes_of letters (each_byte 7 0 c.args.letters (λ i. search rules)))
-    (omega arith)
-    (bytes_enough c.args.at c.args.s.now (λ i. omega (arith, c.type_inv.s i)))))
+    (cc (flag_word letters (enough at s) c.args.last at small (omega arith) bytes))

@@ -16,7 +16,8 @@ returns-in-Some-first_chunk c =
 pub returns-in_default-first_chunk : goal.returns-in_default-first_chunk
 unfolding word
 returns-in_default-first_chunk c =
-    rw (no_bytes c.args.at c.args.s.now (omega (arith, c.in-Some.ensures.cases.4, c.in_default-first_chunk.ensures.cases)))
+    let cut = c.in-Some.ensures.cases in
+    rw (no_bytes c.args.at c.args.s.now (omega (arith, cut.4, c.in_default-first_chunk.ensures.cases)))
 
 pub returns-in_default : goal.returns-in_default
 unfolding word

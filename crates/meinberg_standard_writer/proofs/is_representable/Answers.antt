@@ -11,4 +11,5 @@ unfolding standard_representable
 returns c =
     let offset_fits : SFits w16 c.args.t.utc_offset = search sfits_of in
     let zone_fits : SFits w16 c.zone_offset-zone.result = search sfits_of in
-    rw (eq_bits w16 zone_fits offset_fits) (simp (c.zone_offset-zone.ensures, c.zone_letter.ensures, to_z-of_z offset_fits))
+    rw (eq_bits w16 zone_fits offset_fits)
+    (simp (c.zone_offset-zone.ensures, c.zone_letter.ensures, to_z-of_z offset_fits))

@@ -19,8 +19,10 @@ pub returns : goal.returns
 returns g c =
     let layout : length g.F.StringFormat.format.layout ≡ g.row.N =
     rw (← c.pattern.ensures, length_patterned) (omega arith) in
+    let format = g.F.StringFormat.format in
     let error = rw c.pattern.ensures at c.layout_error.ensures in
     elim c.match-as_array.branch [
-      | in-Some+else-fits w ↦ read_misfit g.F.StringFormat.format _ error (rw w.in-Some.ensures.cases.same at w.fits.ensures) w.if-fits.false
-      | in_default w ↦ read_length g.F.StringFormat.format _ error (λ long. w.in_default.ensures.cases (long ∙ layout))
+      | in-Some+else-fits w ↦
+          read_misfit format _ error (rw w.in-Some.ensures.cases.same at w.fits.ensures) w.if-fits.false
+      | in_default w ↦ read_length format _ error (λ long. w.in_default.ensures.cases (long ∙ layout))
     ]

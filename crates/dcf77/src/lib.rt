@@ -12,7 +12,7 @@ use reading::Minute;
 pub mod marks;
 mod reading;
 
-// The time that a minute announces, with its marks 1 to 14 and whether it had 60.
+// The time that a minute announces, with its marks 1 to 14 and whether it had 60. A struct of its own, as `GpsTime` is.
 #[derive(Clone, Copy)]
 pub struct MinuteTime {
     pub time: ClockTime,

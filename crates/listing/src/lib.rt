@@ -20,7 +20,8 @@ pub struct Listing {
     pub totals: Totals,
 }
 
-// The state after the bytes taken, and the length of their text.
+// The state after the bytes taken, and the length of their text: the caller's memory is fixed, so it has no end of its
+// own.
 #[derive(Clone, Copy)]
 pub struct Listed {
     pub listing: Listing,

@@ -12,7 +12,7 @@ mod fitting;
 mod format;
 mod sum;
 
-// What a Trimble string says: a clock time, and the milliseconds beside it.
+// What a Trimble string says: a clock time, and the milliseconds beside it. A struct of its own, as `GpsTime` is.
 #[derive(Clone, Copy)]
 pub struct TrimbleTime {
     pub time: ClockTime,

@@ -40,7 +40,7 @@ pub enum Event {
     Dropped,
 }
 
-// The state after a byte, with the byte's event: a step takes a state by value and hands it back, as document 01 has it.
+// The state after a byte, with the byte's event: a step takes a state by value and hands it back, as document 01 asks.
 #[derive(Clone, Copy)]
 pub struct StepResult {
     pub framer: Framer,

@@ -11,8 +11,8 @@ use format::Gps;
 mod fitting;
 mod format;
 
-// What a GPS string says: a clock time and the clock's position. Not one generic struct for GPS, Trimble and minute, since
-// definitions and theorems name the fields of each.
+// What a GPS string says: a clock time and the clock's position. Not one generic struct for GPS, Trimble and minute,
+// since definitions and theorems name the fields of each.
 #[derive(Clone, Copy)]
 pub struct GpsTime {
     pub time: ClockTime,

@@ -1,4 +1,4 @@
-// The checks of a minute and its fields. Mark 45 of the month, say, is the bit of 512 in the number of the date's marks.
+// The checks of a minute and its fields. Mark 45 of the month, say, is the bit of 512 in the number of the date.
 ghost use Rattle.std.specs.Prelude.{◌≡◌, not, ◌&&◌, ◌++◌, ◌/◌, ◌%◌, ◌≤◌, leb, eqb, length};
 ghost use Rattle.clock_time.specs.Reading.{answer_of};
 ghost use Rattle.clock_time.specs.Errors.{checked};

@@ -1,15 +1,8 @@
-// Bits and bytes as numbers: a bit, the parity of a number's bits, and eight bytes side by side.
+// Bits and bytes as numbers: the parity of a number's bits, and eight bytes side by side.
 #![tactic(auto)]
 
-ghost use Rattle.std.specs.Prelude.{◌≡◌, cond, ◌+◌, ◌*◌, ◌%◌, slice_index};
+ghost use Rattle.std.specs.Prelude.{◌≡◌, ◌+◌, ◌*◌, ◌%◌, slice_index};
 ghost use Rattle.std.specs.Int.Count.{ones};
-
-// 1 if the bit is set, else 0.
-pub fn bit(on: bool) -> u8
-    ensures { result ≡ cond on 1 0 }
-{
-    u8::from(on)
-}
 
 // 1 if an odd number of bits is set, else 0.
 pub fn parity(n: u64) -> u64

@@ -67,8 +67,10 @@ fn spell_run(a: MinuteTime) -> u64
     ensures { Spells 59 (first_marks_of a) result }
 {
     let t = a.time;
-    let groups = spell_minute(t.minute) + 256 * (spell_hour(t.hour) + 128 * spell_date(t));
-    2 * ((a.detail.first_marks % 16384) as u64 + 16384 * (spell_flags(t) + 64 * groups))
+    let flags = spell_flags(t);
+    let date = spell_date(t);
+    let groups = spell_minute(t.minute) + 256 * (spell_hour(t.hour) + 128 * date);
+    2 * ((a.detail.first_marks % 16384) as u64 + 16384 * (flags + 64 * groups))
 }
 
 // The bits of a number, the lowest first.

@@ -60,11 +60,9 @@ fn store(framer: Framer, state: &mut [u8])
     requires { (68 ≤ length state.old) × (framer.count ≤ 255) }
     ensures { state.new ≡ state_bytes framer ++ drop 68 state.old }
 {
-    let bytes = framer.bytes;
-    state[..66].copy_from_slice(&bytes);
-    let mode = framer.mode;
+    state[..66].copy_from_slice(&framer.bytes);
     state[66] = framer.count as u8;
-    state[67] = mode_number(mode);
+    state[67] = mode_number(framer.mode);
 }
 
 // Takes bytes of `s` up to its end, to `limit` bytes, or to just after the first string, and leaves the state. Refuses

@@ -199,6 +199,7 @@ fn minute_from(z: &[i32]) -> MinuteTime
 
 // The clock time that the first 14 numbers are. Refuses with Unrepresentable (23) if one is outside the range of its
 // field, or there are fewer than 14.
+// Not `from_numbers`: more numbers may follow.
 pub fn first_time_of(z: &[i32]) -> Result<ClockTime, Error>
     ensures { answer_of result ≡ first_time_of z.now }
 {
@@ -209,6 +210,7 @@ pub fn first_time_of(z: &[i32]) -> Result<ClockTime, Error>
 }
 
 // A reading that numbers stand for.
+// Each impl has its own places and struct.
 pub trait FromNumbers: Sized {
     ghost ranges: { List Range };
 

@@ -1,7 +1,7 @@
 // What C calls of readings: strings, minutes, the feed and Unix time. Each exported function returns 0, or the number
 // of its refusal, and leaves its results in memory that the caller lends. A refusal changes nothing lent. The C
 // interface needs the statuses and kinds as numbers, and the results behind pointers. Each only calls the function of
-// its name in c_readings, and promises what that promises.
+// its name in c_readings, and promises what that promises. They stand twice since a crate is a library or an archive.
 #![tactic(auto)]
 
 ghost use Rattle.c_feed.specs.Feed.{feed_memory, feed_into};

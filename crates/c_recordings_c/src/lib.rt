@@ -1,7 +1,7 @@
 // What C calls of recordings of marks. Each exported function returns 0, or the number of its refusal, and leaves its
 // results in memory that the caller lends. A refusal changes nothing lent. The C interface needs the statuses as
 // numbers, and the results behind pointers. Each only calls the function of its name in c_recordings, and promises what
-// that promises.
+// that promises. They stand twice since a crate is a library or an archive.
 #![tactic(auto)]
 
 ghost use Rattle.clock_time.specs.Called.{called, called_answer, called_memory, called_both};

@@ -68,6 +68,7 @@ pub fn with_weekday(t: ClockTime) -> ClockTime
 }
 
 // The weekday, 1 Monday to 7 Sunday. Refuses with NoSuchDate (5) if the date is not one of 1970 to 2069.
+// By `weekday_or_zero`, which has the one test of the date.
 pub fn weekday_of(date: Date) -> Result<u32, Error>
     ensures { answer_of result ≡ weekday_of date.year date.month date.day }
 {

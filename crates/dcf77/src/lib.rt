@@ -13,7 +13,7 @@ pub mod marks;
 mod reading;
 
 // The time that a minute announces, with its marks 1 to 14 and whether it had 60. A struct of its own, as `GpsTime` is.
-#[derive(Clone, Copy)]
+#[derive(Clone, Copy, Debug, PartialEq, Eq)]
 pub struct MinuteTime {
     pub time: ClockTime,
     pub detail: MinuteDetail,

@@ -5,6 +5,7 @@ ghost use Rattle.dcf77.specs.Marks.{all_sure, sure_from, eight_sure, binary};
 ghost use Rattle.dcf77.specs.Numbers.{Sure, four_bytes};
 
 // A short mark, a long one, and a second without one. Every other number is a mark that is unsure.
+// Bytes and no enum, since C lends marks as bytes.
 pub const SHORT: u8 = 0;
 
 pub const LONG: u8 = 1;

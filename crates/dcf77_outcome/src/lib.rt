@@ -66,6 +66,7 @@ fn number_of(a: MinuteTime) -> u32
 }
 
 // The number of a run of marks: the error's, or that of the minute.
+// One u32 for both, since the outcomes that C lends hold a minute's number or an error's.
 pub fn run_number(m: &[u8]) -> u32
     ensures { result ≡ run_number m.now }
 {

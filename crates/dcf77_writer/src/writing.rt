@@ -26,6 +26,7 @@ fn spell_flags(t: ClockTime) -> u64
 }
 
 // Marks 21 to 28, the parity last.
+// This and the next two share only the call of `parity`.
 fn spell_minute(minute: u8) -> u64
     ensures { Spells 8 (with_parity (bits 4 (minute % 10) ++ bits 3 (minute / 10))) result }
 {
@@ -118,6 +119,7 @@ fn is_representable(a: MinuteTime) -> bool
 }
 
 // Writes the run that is made of a minute, if it is read as that minute.
+// Run and test are this format's own: see `clock_time::write_bytes`.
 pub(crate) fn write_run(a: MinuteTime, run: &[u8], out: &mut [u8]) -> Result<usize, Error>
     requires { run.now ≡ minute_text a }
     ensures { written result out.new ≡ write_minute a out.old }

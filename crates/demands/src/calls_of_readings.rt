@@ -1,4 +1,5 @@
-// From C: strings, minutes, the feed and the instant.
+// From C: strings, minutes, the feed and the instant. Statuses and kinds are numbers, and results behind pointers,
+// since this is what C calls.
 ghost use Rattle.std.specs.Prelude.{◌≡◌, ℕ, List, [], ◌∷◌, ◌++◌};
 ghost use Rattle.clock_time.specs.Called.{called};
 ghost use Rattle.time_string.specs.Kind.{kind_number};

@@ -1,4 +1,5 @@
-// From C: a recording, its outcomes, and the correction of a mark.
+// From C: a recording, its outcomes, and the correction of a mark. Statuses and kinds are numbers, and results behind
+// pointers, since this is what C calls.
 ghost use Rattle.std.specs.Prelude.{ℕ, ◌≡◌, [], ◌∷◌};
 ghost use Rattle.clock_time.specs.Called.{called};
 ghost use Rattle.recording.specs.Demand.{Corrected};

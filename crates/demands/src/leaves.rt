@@ -24,6 +24,7 @@ use dcf77::MinuteTime;
 use listing_lines::Totals;
 use meinberg_gps::GpsTime;
 
+// The kind is a number, as C names it.
 fn write_string(kind: u8, fields: &[i32], out: &mut [u8]) -> Result<usize, Error>
     ensures demand_1 { RefusesAndKeeps (write_lines kind fields.now out.old) (1 ∷ 23 ∷ 20 ∷ []) out.old
         (written result out.new) }

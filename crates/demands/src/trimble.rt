@@ -1,4 +1,5 @@
-// The Trimble string: reading, in the library and from C.
+// The Trimble string: reading, in the library and from C. Statuses and kinds are numbers, and results behind pointers,
+// since this is what C calls.
 ghost use Rattle.std.specs.Prelude.{[], ◌∷◌, ◌++◌};
 ghost use Rattle.clock_time.specs.Reading.{answer_of};
 ghost use Rattle.clock_time.specs.Called.{called};

@@ -49,6 +49,7 @@ fn has_flag_fault(s: &[u8; 21]) -> bool
 }
 
 // The fields that are sent, and 0 for a weekday.
+// Places, zone and flags are this format's own; the fields name each byte.
 fn sent_fields(s: &[u8; 21]) -> ClockTime
     requires { FitsLayout elv_layout s.now × (elv_flag_fault s.now ≡ false) }
     ensures { result ≡ sent_fields s.now }

@@ -65,6 +65,7 @@ fn is_representable(t: ClockTime) -> bool
 
 // Writes a clock time as an ELV DCF7000 string to the front of `out`. Refuses with Unrepresentable (23) if no such
 // string is read as it, then with LentMemory (20) if there is no room for 21 bytes.
+// Text and test are this format's own: see `clock_time::write_bytes`.
 pub fn write_elv(t: ClockTime, out: &mut [u8]) -> Result<usize, Error>
     ensures { written result out.new ≡ write_elv t out.old }
 {

@@ -16,7 +16,7 @@ const ETX: u8 = 3;
 const ROOM: usize = 66;
 
 // Where a state stands.
-#[derive(Clone, Copy)]
+#[derive(Clone, Copy, Debug, PartialEq, Eq)]
 pub enum Mode {
     Outside,
     Inside,
@@ -25,7 +25,7 @@ pub enum Mode {
 
 // The state between two bytes: of a string that goes on, the first `count` of `bytes` are kept. A state that C lends
 // may have a count above 66, so the count stands beside the bytes, with no bound.
-#[derive(Clone, Copy)]
+#[derive(Clone, Copy, Debug, PartialEq, Eq)]
 pub struct Framer {
     pub bytes: [u8; 66],
     pub count: usize,
@@ -33,6 +33,7 @@ pub struct Framer {
 }
 
 // What a byte ends: nothing yet, a kept string of so many bytes, or an overlong string.
+// Nothing is a case and no Option: document 01 has these three answers, and `step_of` names them.
 #[derive(Clone, Copy, PartialEq, Eq, Debug)]
 pub enum Event {
     Nothing,
@@ -41,14 +42,15 @@ pub enum Event {
 }
 
 // The state after a byte, with the byte's event: a step takes a state by value and hands it back, as document 01 asks.
-#[derive(Clone, Copy)]
+#[derive(Clone, Copy, Debug, PartialEq, Eq)]
 pub struct StepResult {
     pub framer: Framer,
     pub event: Event,
 }
 
 // The state after the bytes taken of a slice, with the event of the last.
-#[derive(Clone, Copy)]
+// By value, as `StepResult` is.
+#[derive(Clone, Copy, Debug, PartialEq, Eq)]
 pub struct FeedResult {
     pub framer: Framer,
     pub event: Event,

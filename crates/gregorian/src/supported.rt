@@ -19,7 +19,11 @@ impl SupportedDate {
         ensures same { IfSome result (λ s. s.date ≡ date) }
     {
         if crate::is_supported_date(FIRST_YEAR, LAST_YEAR, date) {
-            Some(SupportedDate { date })
+            // Field by field: a copy of the whole is packed into one register and taken apart again.
+            let Date { year, month, day } = date;
+            Some(SupportedDate {
+                date: Date { year, month, day },
+            })
         } else {
             None
         }

@@ -53,6 +53,8 @@ pub fn layout_error(pattern: &[u8], s: &[u8]) -> Error
 
 // The clock time. Refuses with the first that holds of NoSuchDate (5), NoSuchTime (6) and Weekday (7); `mismatch` is a
 // further reason for NoSuchTime.
+// `mismatch` is a flag, since the definition `clock_checks` takes it; the years are arguments of the date's test, since
+// a caller may name them one day.
 #[tactic(auto, unfolding(crate::specs::Text::supported_day, crate::specs::Text::clock_checks))]
 pub fn check_clock(t: ClockTime, mismatch: bool) -> Result<ClockTime, Error>
     ensures { answer_of result ≡ checked (clock_checks (supported_day t) t mismatch) t }
@@ -70,17 +72,20 @@ pub fn check_clock(t: ClockTime, mismatch: bool) -> Result<ClockTime, Error>
 }
 
 // The clock time with the weekday of its date, for a format that sends none. Refuses with NoSuchDate (5) if the date is
-// not one of 1970 to 2069, then with NoSuchTime (6).
+// not one of 1970 to 2069, then with NoSuchTime (6). Just such a date has no weekday, so that it is looked at once.
+// Not `check_clock`: the weekday is worked out here, and its 0 is the test of the date.
+#[inline(always)]
 pub fn check_without_weekday(t: ClockTime) -> Result<ClockTime, Error>
     ensures { answer_of result ≡ checked (clock_checks (supported_day t) (with_weekday t) false) (with_weekday t) }
 {
-    if !gregorian::is_supported_date(FIRST_YEAR, LAST_YEAR, t.date()) {
+    let dated = calendar::date::with_weekday(t);
+    if dated.weekday == 0 {
         return Err(Error::NoSuchDate);
     }
     if !calendar::time_of_day::time_exists(t.hour, t.minute, t.second, t.utc_offset) {
         return Err(Error::NoSuchTime);
     }
-    Ok(calendar::date::with_weekday(t))
+    Ok(dated)
 }
 
 // The letter if `on`, else the other byte.

@@ -82,6 +82,7 @@ pub fn flags_fit(s: &[u8], at: usize, letters: [u8; 7], last: u8) -> bool
 
 // The numbers of seven pairs of digits from a place on, each a place after the one before it; 0 if there are no eight
 // bytes.
+// 0 as in `word_at`.
 fn pairs_at(s: &[u8], at: usize) -> [u8; 7]
     ensures { result ≡ seven_pairs at (enough at s.now) }
 {

@@ -4,6 +4,7 @@ ghost use Rattle.list_times.specs.Request.{read_argument, read_request};
 
 // What to do: list standard input, list the file that is named, tell how the program is used, tell its version, or say
 // that the arguments are none of these.
+// Nothing compares or prints it.
 #[derive(Clone, Copy)]
 pub(crate) enum Request {
     ListInput,

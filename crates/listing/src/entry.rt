@@ -16,6 +16,7 @@ const LONGEST: usize = 35;
 pub(crate) type Line = ArrayVec<u8, LONGEST>;
 
 // What an event of the feed brings to the listing: nothing, a string as it was read, or an overlong string dropped.
+// It has the cases of `Event` one by one.
 #[derive(Clone, Copy)]
 pub(crate) enum Entry {
     Nothing,

@@ -14,7 +14,7 @@ mod entry;
 use entry::Line;
 
 // The state between two bytes.
-#[derive(Clone, Copy)]
+#[derive(Clone, Copy, Debug, PartialEq, Eq)]
 pub struct Listing {
     pub framer: Framer,
     pub totals: Totals,
@@ -22,7 +22,7 @@ pub struct Listing {
 
 // The state after the bytes taken, and the length of their text: the caller's memory is fixed, so it has no end of its
 // own.
-#[derive(Clone, Copy)]
+#[derive(Clone, Copy, Debug, PartialEq, Eq)]
 pub struct Listed {
     pub listing: Listing,
     pub taken: usize,

@@ -12,7 +12,7 @@ mod last_line;
 pub mod line;
 
 // How many strings were complete, complete but refused, and dropped, each modulo 2 ^ 64.
-#[derive(Clone, Copy)]
+#[derive(Clone, Copy, Debug, PartialEq, Eq)]
 pub struct Totals {
     pub frames: u64,
     pub refused: u64,

@@ -22,6 +22,7 @@ fn flags_text(t: ClockTime) -> [u8; 7]
 pub type LineBytes = [u8; 35];
 
 // The line with the fields of `t`, the bytes of its offset and of its flags.
+// Byte by byte, as a line is drawn: copying its short parts to their places would be longer.
 pub fn time_line(t: ClockTime) -> LineBytes
     ensures { result ≡ time_line t }
 {

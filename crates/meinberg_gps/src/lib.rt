@@ -13,7 +13,7 @@ mod format;
 
 // What a GPS string says: a clock time and the clock's position. Not one generic struct for GPS, Trimble and minute,
 // since definitions and theorems name the fields of each.
-#[derive(Clone, Copy)]
+#[derive(Clone, Copy, Debug, PartialEq, Eq)]
 pub struct GpsTime {
     pub time: ClockTime,
     pub position: Position,

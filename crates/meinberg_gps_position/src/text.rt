@@ -4,6 +4,7 @@ ghost use Rattle.decimal.specs.Decimal.{digits};
 ghost use Rattle.meinberg_gps_position.specs.Aligned.{blank_or, aligned};
 
 // A blank for 0, else the last digit.
+// By hand, since blanks stand for leading zeros.
 #[tactic(auto, unfolding(crate::specs::Aligned::blank_or))]
 fn digit_or_blank(n: u32) -> u8
     ensures { result ≡ blank_or n }

@@ -12,6 +12,7 @@ mod text;
 
 // Writes a clock time and a position as a Meinberg GPS string to the front of `out`. Refuses with Unrepresentable (23)
 // if no such string is read as them, then with LentMemory (20) if there is no room for 66 bytes.
+// Text and test are this format's own: see `clock_time::write_bytes`.
 pub fn write_gps(g: GpsTime, out: &mut [u8]) -> Result<usize, Error>
     ensures { written result out.new ≡ write_gps g out.old }
 {

@@ -50,6 +50,7 @@ pub fn offset_of(utc: bool, summer: bool) -> i16
     }
 }
 
+// Places, zone and flags are this format's own; the fields name each byte.
 fn fields(s: &[u8; 32]) -> ClockTime
     requires { FitsLayout pzf_layout s.now }
     ensures { result ≡ pzf_fields s.now }

@@ -27,7 +27,7 @@ pub fn text_of(t: ClockTime) -> PzfBytes
         d.year[1],
         b';',
         b' ',
-        48 + t.weekday % 10,
+        b'0' + t.weekday % 10,
         b';',
         b' ',
         d.hour[0],
@@ -60,6 +60,7 @@ fn is_representable(t: ClockTime) -> bool
 
 // Writes a clock time as a Meinberg PZF string to the front of `out`. Refuses with Unrepresentable (23) if no such
 // string is read as it, then with LentMemory (20) if there is no room for 32 bytes.
+// Text and test are this format's own: see `clock_time::write_bytes`.
 pub fn write_pzf(t: ClockTime, out: &mut [u8]) -> Result<usize, Error>
     ensures { written result out.new ≡ write_pzf t out.old }
 {

@@ -26,6 +26,7 @@ impl StringFormat<32> for Standard {
         b"\x02D:00.00.00;T:0;U:00.00.00;uvXY\x03"
     }
 
+    // The last bytes one by one: digits, flags and letters fit no sample of eight.
     fn fits(s: &[u8; 32]) -> bool {
         layout_words::eight_fit(s, 0, *b"\x02D:00.00")
             & layout_words::eight_fit(s, 8, *b".00;T:0;")
@@ -58,6 +59,7 @@ pub fn zone_offset(letter: u8) -> i16
     }
 }
 
+// Places, zone and flags are this format's own; the fields name each byte.
 fn fields(s: &[u8; 32]) -> ClockTime
     requires { FitsLayout standard_layout s.now }
     ensures { result ≡ standard_fields s.now }

@@ -50,7 +50,7 @@ fn text_of(t: ClockTime) -> [u8; 32]
         b';',
         b'T',
         b':',
-        48 + t.weekday % 10,
+        b'0' + t.weekday % 10,
         b';',
         b'U',
         b':',
@@ -83,6 +83,7 @@ fn is_representable(t: ClockTime) -> bool
 
 // Writes a clock time as a Meinberg standard string to the front of `out`. Refuses with Unrepresentable (23) if no such
 // string is read as it, then with LentMemory (20) if there is no room for 32 bytes.
+// Text and test are this format's own: see `clock_time::write_bytes`.
 pub fn write_standard(t: ClockTime, out: &mut [u8]) -> Result<usize, Error>
     ensures { written result out.new ≡ write_standard t out.old }
 {

@@ -45,7 +45,8 @@ fn last_gap(marks: &[u8]) -> Option<usize>
 fn first_gap(marks: &[u8]) -> Option<usize>
     ensures { MatchOption result
         ((k : ℕ) → k < length marks.now → slice_index marks.now k ≢ 2)
-        (λ i. (i < length marks.now) × (slice_index marks.now i ≡ 2) × ((k : ℕ) → k < i → slice_index marks.now k ≢ 2)) }
+        (λ i. (i < length marks.now) × (slice_index marks.now i ≡ 2)
+        × ((k : ℕ) → k < i → slice_index marks.now k ≢ 2)) }
 {
     marks.iter().position(|mark| *mark == GAP)
 }

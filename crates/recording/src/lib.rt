@@ -51,6 +51,7 @@ fn check_fit(marks: usize, outcomes: usize) -> Result<(), Error>
 
 // Puts the number of every place into the outcomes. Refuses with LentMemory (20) if there are not as many outcomes
 // as marks, or more than 100,000 marks.
+// Marks and outcomes are two slices, since C lends them apart.
 pub fn fill_outcomes(marks: &[u8], outcomes: &mut [u32]) -> Result<(), Error>
     ensures { filling result outcomes.new ≡ fill_outcomes marks.now outcomes.old }
 {

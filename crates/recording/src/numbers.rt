@@ -11,6 +11,8 @@ use clock_time::Error;
 use dcf77::marks::GAP;
 
 // The number of the run between two places.
+// One u32, as `run_number` answers: C lends outcomes as such numbers. Places are those of the whole recording, as the
+// definitions name them.
 fn number_between(marks: &[u8], earlier: usize, place: usize) -> u32
     requires { (earlier < place) × (place ≤ length marks.now) }
     ensures { result ≡ run_number (run_between marks.now earlier place) }

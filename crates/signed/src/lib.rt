@@ -16,6 +16,7 @@ pub fn with_sign(negative: bool, magnitude: u32) -> i64
 }
 
 // Whether a byte is one of two signs and a magnitude is within its limit, and no zero is below zero.
+// The two signs are apart, as in the definition.
 #[tactic(auto, unfolding(crate::specs::Signed::sign_holds))]
 pub fn sign_holds(above: u8, below: u8, limit: u32, byte: u8, magnitude: u32) -> bool
     ensures { result ≡ sign_holds above below limit byte magnitude }

@@ -45,7 +45,7 @@ impl TryFrom<u8> for Kind {
 }
 
 // What a string says: a clock time, with a position if the string has one.
-#[derive(Clone, Copy)]
+#[derive(Clone, Copy, Debug, PartialEq, Eq)]
 pub enum Reading {
     Time(ClockTime),
     TimeAndPosition(GpsTime),

@@ -27,6 +27,7 @@ impl<'a> Fitting<'a> {
     }
 
     // The fields that are sent, and 0 for a weekday.
+    // Places are this format's own; the fields name each number.
     fn sent_fields(self) -> ClockTime
         ensures { result ≡ sent_fields self.entry.s.now }
     {
@@ -61,21 +62,13 @@ impl<'a> Fitting<'a> {
     }
 
     // Reads the clock time of a string whose sum and validity hold. Refuses with NoSuchDate (5) if the date is not one
-    // of 1970 to 2069, then with NoSuchTime (6). Just such a date has no weekday, so that one test serves both. It is
-    // not `layout::check_without_weekday`: that takes more instructions here, and more in ELV's reader if it has a
-    // second caller, since it is no longer inlined there.
+    // of 1970 to 2069, then with NoSuchTime (6).
     fn read_clock(self) -> Result<TrimbleTime, Error>
         ensures { answer_of result ≡ read_clock self.entry.s.now }
     {
-        let t = calendar::date::with_weekday(self.sent_fields());
-        if t.weekday == 0 {
-            return Err(Error::NoSuchDate);
-        }
-        if !calendar::time_of_day::time_exists(t.hour, t.minute, t.second, t.utc_offset) {
-            return Err(Error::NoSuchTime);
-        }
+        let time = layout::check_without_weekday(self.sent_fields())?;
         Ok(TrimbleTime {
-            time: t,
+            time,
             milliseconds: self.milliseconds(),
         })
     }

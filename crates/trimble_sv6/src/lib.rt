@@ -13,7 +13,7 @@ mod format;
 mod sum;
 
 // What a Trimble string says: a clock time, and the milliseconds beside it. A struct of its own, as `GpsTime` is.
-#[derive(Clone, Copy)]
+#[derive(Clone, Copy, Debug, PartialEq, Eq)]
 pub struct TrimbleTime {
     pub time: ClockTime,
     pub milliseconds: u16,

@@ -1,19 +1,14 @@
-use Rattle.std.proofs.Common.{ap, sym, ◌∙◌}
-use Rattle.calendar.specs.Date.{with_weekday}
-use Rattle.trimble_sv6.proofs.TrimbleLaws.{no_date, no_time, timed}
+use Rattle.std.proofs.lemmas.Result.{err_from_is_err_and}
+use Rattle.trimble_sv6.proofs.TrimbleLaws.{read_clock_lem}
 use Rattle.trimble_sv6.proofs.fitting.Fitting.read_clock.Goals as goal
 
-pub returns-then-t-eq0 : goal.returns-then-t-eq0
-returns-then-t-eq0 c =
-    no_date _ (c.with_weekday-t.ensures ∙ ap with_weekday c.sent_fields.ensures) c.if-t-eq0.true
-
-pub returns-then-not-time_exists : goal.returns-then-not-time_exists
-returns-then-not-time_exists c =
-    no_time _ (c.with_weekday-t.ensures ∙ ap with_weekday c.sent_fields.ensures) c.if-t-eq0.false
-    (sym c.time_exists.ensures ∙ c.if-not-time_exists.true)
+pub returns-in_err-time : goal.returns-in_err-time
+returns-in_err-time c =
+    let answer = read_clock_lem c.args.self.s.now c.sent_fields.ensures c.check_without_weekday.ensures in
+    let handed = err_from_is_err_and c.from_residual.result c.from_residual.ensures.1 in
+    rw (handed.1, handed.2) (rw c.in_err-time.was at answer)
 
 pub returns : goal.returns
 returns c =
-    rw c.milliseconds.ensures
-    (timed _ (c.with_weekday-t.ensures ∙ ap with_weekday c.sent_fields.ensures) c.if-t-eq0.false
-    (sym c.time_exists.ensures ∙ c.if-not-time_exists.false))
+    let answer = read_clock_lem c.args.self.s.now c.sent_fields.ensures c.check_without_weekday.ensures in
+    rw c.milliseconds.ensures (rw c.in_ok-time.was at answer)

@@ -16,7 +16,6 @@ pub fn write_minute(a: MinuteTime, out: &mut [u8]) -> Result<usize, Error>
     ensures { written result out.new ≡ write_minute a out.old }
 {
     let marks = writing::sixty_marks(a);
-    let detail = a.detail;
-    let count = 59 + detail.sixty as usize;
+    let count = 59 + a.detail.sixty as usize;
     writing::write_run(a, &marks[..count], out)
 }

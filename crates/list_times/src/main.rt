@@ -25,6 +25,7 @@ const ENAMETOOLONG: i32 = 36;
 const EILSEQ: i32 = 84;
 
 // Writes the heading.
+// Here and below a `requires` says what is written; a type would say it in ghost fields alone.
 fn write_heading(rt: &HostRuntime, text: &[u8]) -> io::Result<()>
     requires { text.now ≡ ascii "time zone flags\n" }
 {
@@ -95,6 +96,7 @@ fn read_some<I: Read>(rt: &HostRuntime, input: &mut I, name: &[u8], buf: &mut [u
 
 // Reads the input to its end and writes the lines of what comes, as long as writing does not fail. A proved loop has to
 // end, and nothing says that the input does. So the loop has a number of turns that no run uses up.
+// Fixed memory: only an error's text is allocated. The name is only what is told of the input.
 fn list_input<I: Read>(
     rt: &HostRuntime,
     input: &mut I,
@@ -117,9 +119,8 @@ fn list_input<I: Read>(
 
 // Writes the line of the totals of `end`.
 fn write_totals(rt: &HostRuntime, end: Listing) -> io::Result<()> {
-    let totals = end.totals;
     let mut text = [0u8; 86];
-    match listing_lines::write_totals(totals, &mut text) {
+    match listing_lines::write_totals(end.totals, &mut text) {
         Ok(n) => write_last(rt, end, &text[..n]),
         Err(_) => Ok(()),
     }

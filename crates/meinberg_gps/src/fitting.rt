@@ -40,6 +40,7 @@ impl<'a> Fitting<'a> {
         signed::with_sign(s[24] == b'-', self.offset_magnitude()) as i16
     }
 
+    // Places, zone and flags are this format's own; the fields name each byte.
     fn clock(self) -> ClockTime
         ensures { result ≡ clock_of self.entry.s.now }
     {

@@ -40,6 +40,7 @@ impl StringFormat<66> for Gps {
 }
 
 // Whether every fixed byte after the flags stands.
+// Byte by byte: those between may be any, and samples would be longer.
 fn rest_fits(s: &[u8; 66]) -> bool
     ensures { result ≡ fits_from true 40 (slice 40 26 gps_layout) s.now }
 {

@@ -31,6 +31,7 @@ fn position_from(lat: Angle, lon: Angle, height: u16) -> Result<Position, Error>
 
 // Reads the position of a GPS string; the string's other places play no part. Refuses with Position (9) if it is none.
 // Latitude has two places before the point: a blank stands for the third.
+// Each number is an array of its bytes, by their places.
 pub fn read_position(s: &[u8]) -> Result<Position, Error>
     ensures { answer_of result ≡ read_position s.now }
 {

@@ -52,6 +52,7 @@ fn first_gap(marks: &[u8]) -> Option<usize>
 }
 
 // The nearest gap before a place.
+// A place of the whole recording, as the definition has it; `Place` is made only after this.
 pub(crate) fn gap_before(marks: &[u8], place: usize) -> Option<usize>
     requires { place ≤ length marks.now }
     ensures { gap_of result ≡ gap_before marks.now place }

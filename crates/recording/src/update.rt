@@ -43,6 +43,7 @@ impl<'a> Place<'a> {
     }
 
     // The number at the place.
+    // As `numbers::number_at`, but the gap before is known.
     fn number(&self) -> u32
         ensures { result ≡ rule self.now.marks.now self.now.place }
     {

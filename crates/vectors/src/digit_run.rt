@@ -14,6 +14,7 @@ pub enum DigitsError {
 }
 
 // Reads a run of at most 19 digits.
+// Not `parse`, since the place of the first byte that is no digit is an answer.
 pub(crate) fn read_digits(s: &[u8]) -> Result<u64, DigitsError>
     ensures { digits_answer result ≡ read_digits s.now }
 {
@@ -31,6 +32,7 @@ pub(crate) fn read_digits(s: &[u8]) -> Result<u64, DigitsError>
 }
 
 // Fills the first `count` places of `out` with the last `count` digits of `number`.
+// Not `{n}`: as many digits as are asked for, leading zeros too.
 fn fill_digits(number: u64, count: usize, out: &mut [u8])
     requires { count ≤ length out.old }
     ensures { out.new ≡ digits count number ++ drop count out.old }

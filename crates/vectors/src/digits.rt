@@ -9,6 +9,7 @@ pub fn read(s: &[u8]) -> Result<u64, Refusal> {
 }
 
 // Writes into the first `room` bytes of the space; none if it has fewer.
+// 0 is what is printed then: the room comes from the line and may be more than there is.
 fn write(number: u64, count: usize, space: &mut [u8], room: usize) -> Result<usize, Refusal> {
     let Some(lent) = space.get_mut(..room) else {
         return Ok(0);

@@ -4,6 +4,7 @@ use std::fmt::Display;
 use std::io;
 
 // A buffer that is lent, before it is written to.
+// Lent as C lends it, in fixed memory.
 pub const EMPTY: [u8; 256] = [b'.'; 256];
 
 // Puts a number or a refusal, after a blank.

@@ -17,6 +17,7 @@ pub fn parts(line: &[u8]) -> (&[u8], &[u8]) {
 }
 
 // What a hexadecimal digit stands for: its low four bits, and 9 more for a letter.
+// Not `from_str_radix`: any byte is taken.
 fn nibble(b: u8) -> u8
     ensures { result ≤ 15 }
 {

@@ -32,6 +32,7 @@ impl<'a> Place<'a> {
     }
 
     // The nearest gap up to the place: the place itself if it is one, else the nearest before it.
+    #[tactic(auto, using(crate::proofs::GapLaws::before_gap, crate::proofs::GapLaws::before_more))]
     fn gap_up_to(&self) -> Option<usize>
         ensures { gap_of result ≡ gap_before self.now.marks.now (self.now.place + 1) }
     {
@@ -43,6 +44,7 @@ impl<'a> Place<'a> {
     }
 
     // The number at the place.
+    #[tactic(auto, using(crate::proofs::RuleLaws::rule_none, crate::proofs::RuleLaws::rule_gap))]
     fn number(&self) -> u32
         ensures { result ≡ rule self.now.marks.now self.now.place }
     {

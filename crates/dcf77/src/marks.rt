@@ -45,6 +45,7 @@ fn eight_sure(m: &[u8], at: usize) -> bool
 }
 
 // Whether eight marks from a place on are there, and all of them are short or long.
+#[tactic(auto, using(crate::proofs::MarkLaws::eight_past, crate::proofs::MarkLaws::eight_there))]
 pub fn are_eight_sure(m: &[u8], at: usize) -> bool
     ensures { result ≡ eight_sure at m.now }
 {

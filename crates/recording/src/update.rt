@@ -55,6 +55,7 @@ impl<'a> Place<'a> {
     }
 
     // Puts the rule's number at the place of the outcomes, and says by 1 that it is another one than before.
+    #[tactic(auto, using(crate::proofs::OutcomeLaws::differ_byte))]
     fn renew(&self, outcomes: &mut [u32]) -> usize
         requires { length self.now.marks.now ≡ length outcomes.old }
         ensures outcomes { outcomes.new

@@ -22,6 +22,11 @@ const DATE: usize = 36;
 // The bits that none of eight short or long marks has.
 const UNSURE_BITS: u64 = 0xfefe_fefe_fefe_fefe;
 
+// The factor that brings the bits of four bytes side by side, and what the lowest of them then counts.
+const GATHER: u64 = 0x0102_0408;
+
+const GATHERED: u64 = 0x0100_0000;
+
 // Whether eight marks are short or long: no bit but the lowest is set in any of the bytes.
 fn eight_sure(m: &[u8], at: usize) -> bool
     requires { at + 8 ≤ length m.now }
@@ -41,6 +46,7 @@ fn eight_sure(m: &[u8], at: usize) -> bool
 }
 
 // Whether eight marks from a place on are there, and all of them are short or long.
+#[tactic(auto, using(crate::proofs::MarkLaws::eight_past, crate::proofs::MarkLaws::eight_there))]
 pub fn are_eight_sure(m: &[u8], at: usize) -> bool
     ensures { result ≡ eight_sure at m.now }
 {
@@ -104,7 +110,7 @@ impl<'a> SureRun<'a> {
         let m = self.marks;
         let low = four_at(m, at);
         let high = four_at(m, at + 4);
-        ((low + 16 * high) * 0x0102_0408 / 0x0100_0000 % 256) as u32
+        ((low + 16 * high) * GATHER / GATHERED % 256) as u32
     }
 
     // The number that the marks 21 to 28 stand for.

@@ -95,6 +95,7 @@ pub(crate) fn sixty_marks(a: MinuteTime) -> [u8; 60]
 }
 
 // Whether a minute can have the fields, but for what every format asks and for the offset.
+#[tactic(auto, unfolding(dcf77::specs::Writable::fields_representable))]
 fn are_fields_representable(a: MinuteTime) -> bool
     ensures { result ≡ fields_representable a }
 {

@@ -1,5 +1,5 @@
 -- The worked examples P1 to P11 of document 01 (01, Examples (P: proved)), as one table.
-use Rattle.std.specs.Prelude.{ℕ, ◌≡◌, false, List, [], ◌∷◌, ◌++◌, ℤ, pos, length, replicate, set}
+use Rattle.std.specs.Prelude.{ℕ, ◌≡◌, Result, Ok, Err, false, List, [], ◌∷◌, ◌++◌, ℤ, pos, length, replicate, set}
 use Rattle.clock_time.specs.declared.Error.{Error}
 use Rattle.clock_time.specs.declared.ClockTime.{ClockTime}
 use Rattle.clock_time.specs.Errors.{Answer, accepted, refused}
@@ -23,14 +23,14 @@ pub data Example : Type 0 where
   -- a recording, and its outcomes
   outcomes : List ℕ → List ℕ → Example
   -- a recording and its outcomes, a place and a new mark; what the correction answers, and what it leaves of the two
-  corrected : List ℕ → List ℕ → ℕ → ℕ → CorrectAnswer → List ℕ → List ℕ → Example
+  corrected : List ℕ → List ℕ → ℕ → ℕ → Result ℕ Error → List ℕ → List ℕ → Example
 
 -- the library's definitions give what the example says; a recording's outcomes go into memory that held other numbers
 abbrev pub Holds : Example → Type 0
 Holds (string s answer) = read_gps s ≡ answer
 Holds (instant t answer) = unix_time t ≡ answer
 Holds (run m answer number) = (read_minute m ≡ answer) × (run_number m ≡ number)
-Holds (outcomes m o) = fill_outcomes m (replicate (length m) 7) ≡ filling FillAnswer.Filled o
+Holds (outcomes m o) = fill_outcomes m (replicate (length m) 7) ≡ filling (Ok tt) o
 Holds (corrected m o place mark answer m' o') = correct_mark m o place mark ≡ correction answer m' o'
 
 -- every example of a table holds
@@ -107,19 +107,19 @@ p4 = outcomes marks4 outcomes4
 -- "P5 on P4 a gap put at 30: 30 and 60 hold 11; count 2."
 abbrev pub p5 : Example
 p5 =
-    corrected marks4 outcomes4 30 2 (CorrectAnswer.Corrected 2) (set marks4 30 2) (set (set outcomes4 30 11) 60 11)
+    corrected marks4 outcomes4 30 2 (Ok 2) (set marks4 30 2) (set (set outcomes4 30 11) 60 11)
 
 -- "P6 instead short at 60: 60 holds 0; count 1."
 abbrev pub p6 : Example
-p6 = corrected marks4 outcomes4 60 0 (CorrectAnswer.Corrected 1) (set marks4 60 0) (set outcomes4 60 0)
+p6 = corrected marks4 outcomes4 60 0 (Ok 1) (set marks4 60 0) (set outcomes4 60 0)
 
 -- "P7 instead place 30's own mark again: count 0."
 abbrev pub p7 : Example
-p7 = corrected marks4 outcomes4 30 0 (CorrectAnswer.Corrected 0) marks4 outcomes4
+p7 = corrected marks4 outcomes4 30 0 (Ok 0) marks4 outcomes4
 
 -- "P8 instead place 61: 21."
 abbrev pub p8 : Example
-p8 = corrected marks4 outcomes4 61 0 (CorrectAnswer.Refused Error.Place) marks4 outcomes4
+p8 = corrected marks4 outcomes4 61 0 (Err Error.Place) marks4 outcomes4
 
 -- "P9 gap, gap: 10, 11."
 abbrev pub p9 : Example

@@ -9,7 +9,7 @@ use mathlib.Core.Logic.{◌↔◌}
 use mathlib.Core.Bool.{true}
 use mathlib.Core.List.{List, [], ◌∷◌}
 use mathlib.Core.Option.{Option, none, some}
-use lib.ListN.{length, get_or, take, drop, set, length-drop, drop_of_length-le}
+use lib.ListN.{length, get_or, take, drop, set, length-drop}
 use lib.Seq.{length-take-le, get_or-take, take_all, drop-cons, get_or-set_other, drop-set-lt, get_or-drop}
 use borrow.Author.Tests.{eq-eqb, ne_eqb}
 use Rattle.std.specs.Prelude as Prelude
@@ -38,18 +38,10 @@ pub before_start : (m : List ℕ) (i : ℕ) → i ≡ 0 → gap_before m i ≡ n
 unfolding gap_before
 before_start m i e = rw e
 
-pub after_gap : (m : List ℕ) (i : ℕ) → i < length m → get_or m i 0 ≡ 2 → first_gap (drop i m) i ≡ some i
-unfolding first_gap
-after_gap m i l h = rw (drop-cons m i 0) (simp (eq-eqb _ _ h))
-
 pub after_more : (m : List ℕ) (i : ℕ) → i < length m → (get_or m i 0 ≡ 2 → ⊥)
     → first_gap (drop i m) i ≡ first_gap (drop (i + 1) m) (i + 1)
 unfolding first_gap
 after_more m i l h = rw (add-one, drop-cons m i 0) (simp (ne_eqb _ _ h))
-
-pub after_end : (m : List ℕ) (i : ℕ) → length m ≤ i → first_gap (drop i m) i ≡ none
-unfolding first_gap
-after_end m i h = rw (drop_of_length-le m h)
 
 pub after_start : (m : List ℕ) (p : ℕ) → first_gap (drop (p + 1) m) (p + 1) ≡ gap_after m p
 unfolding gap_after

@@ -1,31 +1,19 @@
 -- Laws of the rule over any number of a run: what a mark v at place p changes in it.
-use Prim.Native.Nat.{ℕ, zero, suc, ◌+◌, ◌-◌, ◌<◌}
+use Prim.Native.Nat.{ℕ, suc, ◌<◌}
 use native.Mathlib.Decide.{dec_lt, ℕ_discrete}
-use native.Mathlib.Nat.{sub-zero, zero-sub, suc-sub-suc}
-use native.Mathlib.Numerals.{add-one}
 use native.Mathlib.Omega.{arith}
 use mathlib.Core.Path.{◌≡◌, refl, sym, ap, ◌∙◌}
 use mathlib.Core.Bool.{true, false}
 use mathlib.Core.List.{List, [], ◌∷◌, Option-to_list}
 use mathlib.Core.Option.{Option, none, some}
-use lib.ListN.{length, get_or, take, drop, set}
-use lib.Seq.{get_or-set_other, take-set-le, take-set-lt, drop-set-lt, take-nil}
+use lib.ListN.{length, get_or, take, set}
+use lib.Seq.{get_or-set_other, take-set-le, take-set-lt, drop-set-lt}
 use borrow.Author.Tests.{eq-eqb, ne_eqb}
 use Rattle.recording.specs.Gaps.{gap_before, gap_after}
 use Rattle.recording.specs.Outcomes.{Right, mended}
-use Rattle.recording.specs.Rule.{run_between, gap_number, rule_by, reached}
+use Rattle.recording.specs.Rule.{gap_number, rule_by, reached}
 use Rattle.recording.proofs.GapLaws.{before_set, before_later, after_in, after_first, after_set}
 use Rattle.recording.proofs.OutcomeLaws.{among, among_miss, right_mended}
-
--- ---- the run as the code cuts it out
-drop_take : (a b : ℕ) (l : List ℕ) → drop a (take b l) ≡ take (b - a) (drop a l)
-drop_take zero b l = rw sub-zero
-drop_take (suc a) zero l = rw zero-sub
-drop_take (suc a) (suc b) [] = sym (take-nil (suc b - suc a))
-drop_take (suc a) (suc b) (x ∷ l) = rw suc-sub-suc (drop_take a b l)
-
-pub part_run : (m : List ℕ) (g i : ℕ) → take (i - (g + 1)) (drop (g + 1) m) ≡ run_between m g i
-part_run m g i = rw add-one (sym (drop_take (suc g) i m))
 
 -- ---- the places that a mark reaches
 pub among_here : (m : List ℕ) (p : ℕ) → among p (reached m p) ≡ true

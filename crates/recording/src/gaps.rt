@@ -5,7 +5,8 @@ ghost use Rattle.recording.specs.Gaps.{gap_before, first_gap, gap_after, gap_of}
 use dcf77::marks;
 use dcf77::marks::GAP;
 
-// Goes back from a place past marks that are short or long, eight at a time: a chain of chunks would look at each mark.
+// Goes back from a place past marks that are short or long, eight at a time. A `while`: a chain of chunks gives how many
+// eights it has passed, and not the place, so that it is no plainer.
 fn pass_back(marks: &[u8], place: usize) -> usize
     ensures { (result ≤ place) × (gap_before marks.now result ≡ gap_before marks.now place) }
 {
@@ -19,7 +20,7 @@ fn pass_back(marks: &[u8], place: usize) -> usize
     i
 }
 
-// Goes on from a place past marks that are short or long, eight at a time, in the same way.
+// Goes on from a place past marks that are short or long, eight at a time; a `while` for the same reason.
 fn pass_on(marks: &[u8], place: usize) -> usize
     ensures within { place ≤ length marks.now → result ≤ length marks.now }
     ensures same { first_gap (drop result marks.now) result ≡ first_gap (drop place marks.now) place }

@@ -14,8 +14,10 @@ mod gaps;
 mod numbers;
 mod update;
 
-// The most marks that a recording may have.
-const LONGEST: usize = 100000;
+// The most marks that a recording may have, and the greatest number that a new mark may have.
+const LONGEST: usize = 100_000;
+
+const LAST_MARK: u8 = 3;
 
 // Refuses with Place (21) if so many marks have no such place.
 fn check_place(marks: usize, place: usize) -> Result<(), Error>
@@ -82,7 +84,7 @@ pub fn correct_mark(
 {
     check_fit(marks.len(), outcomes.len())?;
     check_place(marks.len(), place)?;
-    if 3 < mark {
+    if LAST_MARK < mark {
         return Err(Error::NewMark);
     }
     put_mark(marks, place, mark);

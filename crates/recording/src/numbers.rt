@@ -33,6 +33,7 @@ pub(crate) fn number_at_gap(marks: &[u8], place: usize, last: Option<usize>) -> 
 }
 
 // The number at a place. The gap before it is looked for only if the place is a gap.
+#[tactic(auto, using(crate::proofs::RuleLaws::rule_none, crate::proofs::RuleLaws::rule_gap))]
 pub(crate) fn number_at(marks: &[u8], place: usize) -> u32
     requires { place < length marks.now }
     ensures { result ≡ rule marks.now place }

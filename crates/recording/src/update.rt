@@ -32,6 +32,7 @@ impl<'a> Place<'a> {
     }
 
     // The nearest gap up to the place: the place itself if it is one, else the nearest before it.
+    #[tactic(auto, using(crate::proofs::GapLaws::before_gap, crate::proofs::GapLaws::before_more))]
     fn gap_up_to(&self) -> Option<usize>
         ensures { gap_of result ≡ gap_before self.now.marks.now (self.now.place + 1) }
     {
@@ -44,6 +45,7 @@ impl<'a> Place<'a> {
 
     // The number at the place.
     // As `numbers::number_at`, but the gap before is known.
+    #[tactic(auto, using(crate::proofs::RuleLaws::rule_none, crate::proofs::RuleLaws::rule_gap))]
     fn number(&self) -> u32
         ensures { result ≡ rule self.now.marks.now self.now.place }
     {
@@ -54,6 +56,7 @@ impl<'a> Place<'a> {
     }
 
     // Puts the rule's number at the place of the outcomes, and says by 1 that it is another one than before.
+    #[tactic(auto, using(crate::proofs::OutcomeLaws::differ_byte))]
     fn renew(&self, outcomes: &mut [u32]) -> usize
         requires { length self.now.marks.now ≡ length outcomes.old }
         ensures outcomes { outcomes.new

@@ -16,16 +16,16 @@ returns-in_err-check_place c =
     rw (refused_by _ _ c.from_residual-in_err-check_place.ensures.1 ∙ ap refused h.1)
     (correct_no_place _ _ _ _ (check_passes _ _ c.in_ok-check_fit.ensures) h.0)
 
-pub returns-then-mark-gt3 : goal.returns-then-mark-gt3
-returns-then-mark-gt3 c =
+pub returns-then-mark-gt-LAST_MARK : goal.returns-then-mark-gt-LAST_MARK
+returns-then-mark-gt-LAST_MARK c =
     correct_no_mark _ _ _ _ (check_passes _ _ c.in_ok-check_fit.ensures) (check_passes _ _ c.in_ok-check_place.ensures)
-    c.if-mark-gt3.true
+    c.if-mark-gt-LAST_MARK.true
 
 pub returns : goal.returns
 returns c =
     let m = c.new.ensures.marks ∙ c.put_mark.ensures in
     rw c.put_mark.ensures
     (correct_done _ _ _ _ _ _ (check_passes _ _ c.in_ok-check_fit.ensures) (check_passes _ _ c.in_ok-check_place.ensures)
-    c.if-mark-gt3.false
+    c.if-mark-gt-LAST_MARK.false
     (rw (m, c.new.ensures.place) at c.update.ensures.outcomes)
     (rw (m, c.new.ensures.place) at c.update.ensures.count))

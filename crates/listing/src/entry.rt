@@ -10,7 +10,7 @@ use itoa::Buffer;
 use listing_lines::{Totals, line};
 
 // The length of a clock time's line: no other is longer.
-const LONGEST: usize = 35;
+pub(crate) const LONGEST: usize = 35;
 
 // A line of text, its line feed included.
 pub(crate) type Line = ArrayVec<u8, LONGEST>;

@@ -11,7 +11,10 @@ use listing_lines::Totals;
 
 mod entry;
 
-use entry::Line;
+use entry::{LONGEST, Line};
+
+// A line is made only if `out` has room for the longest.
+const ROOM: usize = LONGEST;
 
 // The state between two bytes.
 #[derive(Clone, Copy, Debug, PartialEq, Eq)]
@@ -85,7 +88,7 @@ impl Listing {
         let mut i = 0;
         // No step of one: a turn takes as many bytes as the feed did.
         while i < s.len() {
-            if out.len() - at < 35 {
+            if out.len() - at < ROOM {
                 return Listed {
                     listing,
                     taken: i,

@@ -9,17 +9,17 @@ loop-i-init c = so_far_none _ _ _
 pub overflow_sub-out : goal.overflow_sub-out
 overflow_sub-out c = omega (arith, c.loop-i.invariant.fits, c.loop-i.invariant.same)
 
-pub shape_of-out-then-out-at-lt35 : goal.shape_of-out-then-out-at-lt35
-shape_of-out-then-out-at-lt35 c = c.loop-i.invariant.same
+pub shape_of-out-then-out-at-lt-ROOM : goal.shape_of-out-then-out-at-lt-ROOM
+shape_of-out-then-out-at-lt-ROOM c = c.loop-i.invariant.same
 
-pub returns-then-out-at-lt35 : goal.returns-then-out-at-lt35
-returns-then-out-at-lt35 c = so_far_full _ _ _ _ _ _ _ c.loop-i.invariant c.if-out-at-lt35.true
+pub returns-then-out-at-lt-ROOM : goal.returns-then-out-at-lt-ROOM
+returns-then-out-at-lt-ROOM c = so_far_full _ _ _ _ _ _ _ c.loop-i.invariant c.if-out-at-lt-ROOM.true
 
 -- what a turn comes to, with the line as it is lent
 turn_of : (c : After-next_line-result) → let l = c.loop-i in
     Turn c.args.self c.args.s.now c.args.out.now l.i l.at l.out c.next_line-result.result
 turn_of c =
-    turn _ _ _ _ _ _ _ c.loop-i.invariant _ c.loop-i-test.true c.if-out-at-lt35.false c.next_line-result.ensures
+    turn _ _ _ _ _ _ _ c.loop-i.invariant _ c.loop-i-test.true c.if-out-at-lt-ROOM.false c.next_line-result.ensures
 
 pub put_line-requires : goal.put_line-requires
 put_line-requires c = rw c.as_slice-line.ensures.value (turn_of (goal.at.put_line-requires c).After-next_line-result).fits

@@ -324,6 +324,8 @@ def default_terminal(program):
     """A controlling terminal in its default mode: that is said, ETX interrupts the program, and no string is listed."""
     child, line = pty.fork()
     if child == 0:
+        # What starts the tests in the background may ignore it, and that would be handed on.
+        signal.signal(signal.SIGINT, signal.SIG_DFL)
         os.execv(program, [program])
     with os.fdopen(line, "r+b", buffering=0) as stream:
         read_until(stream, (INPUT_NOTE + HEADING).replace(b"\n", b"\r\n"), "a terminal in its default mode")

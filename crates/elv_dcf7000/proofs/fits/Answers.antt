@@ -6,7 +6,7 @@ use Rattle.layout.specs.Layout.{sample_place, allowed, fits_from}
 use Rattle.layout_words.specs.Words.{enough, sample_fits}
 use Rattle.layout.proofs.PartLaws.{parts_fit_lem}
 use Rattle.elv_dcf7000.specs.Elv.{elv_layout, elv}
-use Rattle.elv_dcf7000.proofs.ElvStringFormat21.fits.Goals as goal
+use Rattle.elv_dcf7000.proofs.fits.Goals as goal
 
 pub returns : goal.returns
 unfolding fits_from allowed ascii elv elv_layout enough sample_place sample_fits

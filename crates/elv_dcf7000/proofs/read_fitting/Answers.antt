@@ -2,7 +2,7 @@ use mathlib.Core.Path.{◌≡◌, sym, ◌∙◌}
 use mathlib.Core.Bool.{false}
 use Rattle.elv_dcf7000.specs.Elv.{elv_flag_fault, elv, read_elv}
 use Rattle.elv_dcf7000.proofs.ElvLaws.{read_flags, read_clock_lem}
-use Rattle.elv_dcf7000.proofs.ElvStringFormat21.read_fitting.Goals as goal
+use Rattle.elv_dcf7000.proofs.read_fitting.Goals as goal
 
 pub has_flag_fault-requires : goal.has_flag_fault-requires
 unfolding elv

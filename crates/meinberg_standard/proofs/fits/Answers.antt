@@ -6,7 +6,7 @@ use Rattle.layout.specs.Layout.{sample_place, allowed, fits_from}
 use Rattle.layout_words.specs.Words.{enough, sample_fits}
 use Rattle.layout.proofs.PartLaws.{parts_fit_lem}
 use Rattle.meinberg_standard.specs.Standard.{standard_layout, standard}
-use Rattle.meinberg_standard.proofs.StandardStringFormat32.fits.Goals as goal
+use Rattle.meinberg_standard.proofs.fits.Goals as goal
 
 pub returns : goal.returns
 unfolding fits_from allowed ascii standard standard_layout enough sample_place sample_fits

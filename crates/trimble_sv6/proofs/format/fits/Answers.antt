@@ -5,7 +5,7 @@ use Rattle.layout.specs.Layout.{sample_place, allowed, fits_from}
 use Rattle.layout.proofs.PartLaws.{parts_fit_lem}
 use Rattle.layout_words.specs.Words.{enough, sample_fits}
 use Rattle.trimble_sv6.specs.Trimble.{trimble_layout, trimble}
-use Rattle.trimble_sv6.proofs.format.TrimbleStringFormat37.fits.Goals as goal
+use Rattle.trimble_sv6.proofs.format.fits.Goals as goal
 
 pub returns : goal.returns
 unfolding fits_from allowed ascii trimble trimble_layout enough sample_place sample_fits

@@ -27,11 +27,7 @@ impl StringFormat<21> for Elv {
 
     #[tactic(auto, unfolding(crate::specs::Elv::elv, crate::specs::Elv::read_elv))]
     fn read_if_fits(s: &[u8; 21]) -> Option<Result<ClockTime, Error>> {
-        if fits(s) {
-            Some(read_fitting(s))
-        } else {
-            None
-        }
+        if fits(s) { Some(read_fitting(s)) } else { None }
     }
 }
 

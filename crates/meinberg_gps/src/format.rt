@@ -27,11 +27,7 @@ impl StringFormat<66> for Gps {
 
     #[tactic(auto, unfolding(crate::specs::Gps::gps, crate::specs::Gps::read_gps))]
     fn read_if_fits(s: &[u8; 66]) -> Option<Result<GpsTime, Error>> {
-        if fits(s) {
-            Some(read_fitting(s))
-        } else {
-            None
-        }
+        if fits(s) { Some(read_fitting(s)) } else { None }
     }
 }
 

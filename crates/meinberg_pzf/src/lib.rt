@@ -27,11 +27,7 @@ impl StringFormat<32> for Pzf {
 
     #[tactic(auto, unfolding(crate::specs::Pzf::pzf, crate::specs::Pzf::read_pzf))]
     fn read_if_fits(s: &[u8; 32]) -> Option<Result<ClockTime, Error>> {
-        if fits(s) {
-            Some(read_fitting(s))
-        } else {
-            None
-        }
+        if fits(s) { Some(read_fitting(s)) } else { None }
     }
 }
 
@@ -46,11 +42,7 @@ fn fits(s: &[u8; 32]) -> bool
 }
 
 // Reads a string that fits its layout.
-#[tactic(
-    auto,
-    using(layout::proofs::TextLaws::reading),
-    unfolding(crate::specs::Pzf::pzf, crate::specs::Pzf::read_pzf)
-)]
+#[tactic(auto, using(layout::proofs::TextLaws::reading), unfolding(crate::specs::Pzf::pzf, crate::specs::Pzf::read_pzf))]
 fn read_fitting(s: &[u8; 32]) -> Result<ClockTime, Error>
     requires { FitsLayout pzf_layout s.now }
     ensures { answer_of result ≡ read_pzf s.now }

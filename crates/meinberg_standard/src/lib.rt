@@ -28,11 +28,7 @@ impl StringFormat<32> for Standard {
 
     #[tactic(auto, unfolding(crate::specs::Standard::standard, crate::specs::Standard::read_standard))]
     fn read_if_fits(s: &[u8; 32]) -> Option<Result<ClockTime, Error>> {
-        if fits(s) {
-            Some(read_fitting(s))
-        } else {
-            None
-        }
+        if fits(s) { Some(read_fitting(s)) } else { None }
     }
 }
 
@@ -55,11 +51,7 @@ fn fits(s: &[u8; 32]) -> bool
 }
 
 // Reads a string that fits its layout.
-#[tactic(
-    auto,
-    using(layout::proofs::TextLaws::reading),
-    unfolding(crate::specs::Standard::standard, crate::specs::Standard::read_standard)
-)]
+#[tactic(auto, using(layout::proofs::TextLaws::reading), unfolding(crate::specs::Standard::standard, crate::specs::Standard::read_standard))]
 fn read_fitting(s: &[u8; 32]) -> Result<ClockTime, Error>
     requires { FitsLayout standard_layout s.now }
     ensures { answer_of result ≡ read_standard s.now }

@@ -26,11 +26,7 @@ impl StringFormat<37> for Trimble {
 
     #[tactic(auto, unfolding(crate::specs::Trimble::trimble, crate::specs::Trimble::read_trimble))]
     fn read_if_fits(s: &[u8; 37]) -> Option<Result<TrimbleTime, Error>> {
-        if fits(s) {
-            Some(read_fitting(s))
-        } else {
-            None
-        }
+        if fits(s) { Some(read_fitting(s)) } else { None }
     }
 }
 

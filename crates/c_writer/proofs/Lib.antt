@@ -1,0 +1,2 @@
+-- Laws of writing from numbers.
+pub mod WritersLaws

@@ -44,10 +44,11 @@ pub enum Sheet {
 }
 
 // Marks and their sheet, of which a command lends the first.
+// The sheet stands at the front: behind the marks it is not aligned, and is filled slower.
 #[derive(Drop)]
 struct Recording {
-    marks: [u8; LENGTH],
     outcomes: [u32; LENGTH],
+    marks: [u8; LENGTH],
 }
 
 // A sum that depends on the order too.
@@ -125,8 +126,8 @@ pub fn outcome_at(s: &[u8], length: usize, place: usize) -> Result<u32, Refusal>
 // Puts how many outcomes a sheet has, and their sum.
 pub fn put_sheet(rt: &impl Print, s: &[u8], lent: Lent) {
     let mut recording = Recording {
-        marks: [UNSURE; LENGTH],
         outcomes: [0; LENGTH],
+        marks: [UNSURE; LENGTH],
     };
     load(s, &mut recording.marks);
     recording.unmake(lent);
@@ -138,8 +139,8 @@ pub fn put_sheet(rt: &impl Print, s: &[u8], lent: Lent) {
 pub fn put_corrected(rt: &impl Print, s: &[u8], change: Change, sheet: Sheet) {
     let lent = change.lent;
     let mut recording = Recording {
-        marks: [UNSURE; LENGTH],
         outcomes: [0; LENGTH],
+        marks: [UNSURE; LENGTH],
     };
     load(s, &mut recording.marks);
     recording.unmake(lent);

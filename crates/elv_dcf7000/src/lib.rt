@@ -5,7 +5,7 @@ ghost use Rattle.std.specs.Prelude.{◌≡◌, true, false};
 ghost use Rattle.std.proofs.Common.{lit<};
 ghost use Rattle.clock_time.specs.Reading.{answer_of};
 ghost use Rattle.layout.specs.Layout.{fits_from, FitsLayout};
-ghost use Rattle.elv_dcf7000.specs.Elv.{elv_layout, elv_flag_fault, sent_fields, elv, read_elv};
+ghost use Rattle.elv_dcf7000.specs.Elv.{elv_layout, elv_flag_fault, elv_offset, sent_fields, elv, read_elv};
 
 use clock_time::{ClockTime, Error};
 use gregorian::FIRST_YEAR;
@@ -60,6 +60,14 @@ fn has_flag_fault(s: &[u8; 21]) -> bool
     (s[18] != b'0') | (b'7' < s[19])
 }
 
+// The UTC offset with and without summer time.
+#[tactic(auto, unfolding(crate::specs::Elv::elv_offset))]
+pub fn offset_of(summer: bool) -> i16
+    ensures { result ≡ elv_offset summer }
+{
+    clock_time::cet_offset(summer)
+}
+
 // The fields that are sent, and 0 for a weekday.
 // Places, zone and flags are this format's own; the fields name each byte.
 fn sent_fields(s: &[u8; 21]) -> ClockTime
@@ -78,7 +86,7 @@ fn sent_fields(s: &[u8; 21]) -> ClockTime
         hour,
         minute,
         second,
-        utc_offset: clock_time::cet_offset(summer),
+        utc_offset: offset_of(summer),
         unsynchronised: flags / 4 % 2 == 1,
         unverified: false,
         summer_time: summer,

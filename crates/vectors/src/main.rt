@@ -17,6 +17,7 @@ mod strings;
 mod text;
 
 use commands::Command;
+use recordings::Recording;
 use std::io::Read;
 use text::{MOST_BYTES, first};
 
@@ -27,7 +28,7 @@ const LONGEST: usize = 1048576;
 const MOST_NUMBERS: usize = 23;
 
 // Puts the answer to a command whose text is s.
-fn put_command(rt: &impl Print, command: Command<'_>, s: &[u8]) {
+fn put_command(rt: &impl Print, recording: &mut Recording, command: Command<'_>, s: &[u8]) {
     match command {
         Command::Error(place) => output::put(rt, dates::error_number(place)),
         Command::Leap(year) => output::put_truth(rt, dates::is_leap_year(year)),
@@ -49,22 +50,24 @@ fn put_command(rt: &impl Print, command: Command<'_>, s: &[u8]) {
         Command::Run => output::put(rt, dcf77_outcome::run_number(s)),
         Command::Outcome(outcome) => output::put_result(rt, recordings::unix_time(outcome)),
         Command::At(length, place) => {
-            output::put_result(rt, recordings::outcome_at(s, length, place))
+            output::put_result(rt, recordings::outcome_at(recording, s, length, place))
         }
-        Command::Fill(lent) => recordings::put_sheet(rt, s, lent),
-        Command::Correct(change, sheet) => recordings::put_corrected(rt, s, change, sheet),
+        Command::Fill(lent) => recordings::put_sheet(rt, recording, s, lent),
+        Command::Correct(change, sheet) => recordings::put_corrected(
+            rt, recording, s, change, sheet,
+        ),
     }
 }
 
 // Puts the answer to a command with this text.
-fn put_texted(rt: &impl Print, command: Command<'_>, shown: &[u8]) {
+fn put_texted(rt: &impl Print, recording: &mut Recording, command: Command<'_>, shown: &[u8]) {
     let mut space = [0; MOST_BYTES];
     let s = text::decode(shown, command.base(), &mut space);
-    put_command(rt, command, s);
+    put_command(rt, recording, command, s);
 }
 
 // Puts the answer to a line, a question mark if it is no command.
-fn put_answer(rt: &impl Print, line: &[u8]) {
+fn put_answer(rt: &impl Print, recording: &mut Recording, line: &[u8]) {
     let (head, shown) = text::parts(line);
     let mut words = head.split(|b| *b == b' ');
     let name = words.next().unwrap_or(b"");
@@ -75,19 +78,19 @@ fn put_answer(rt: &impl Print, line: &[u8]) {
         count = i + 1;
     }
     match Command::parse(name, first(&space, count)) {
-        Some(command) => put_texted(rt, command, shown),
+        Some(command) => put_texted(rt, recording, command, shown),
         None => output::put_bytes(rt, b" ?"),
     }
 }
 
 // Puts a line, and the answer to it.
-fn put_line(rt: &impl Print, line: &[u8]) {
+fn put_line(rt: &impl Print, recording: &mut Recording, line: &[u8]) {
     output::put_bytes(rt, line);
     match line {
         [] | [0 | b'#', ..] => {}
         _ => {
             output::put_bytes(rt, b" =");
-            put_answer(rt, line);
+            put_answer(rt, recording, line);
         }
     }
     output::put_bytes(rt, b"\n");
@@ -111,14 +114,23 @@ fn read_full<I: Read>(input: &mut I, space: &mut [u8]) -> usize
 
 // Reads the table, as far as there is space, and puts each line with the answer to it.
 // Behind a reference the array's length needs no proof; that of a local array so long finds none.
-fn put_table<I: Read>(rt: &impl Print, input: &mut I, space: &mut [u8; LONGEST]) {
+fn put_table<I: Read>(
+    rt: &impl Print,
+    recording: &mut Recording,
+    input: &mut I,
+    space: &mut [u8; LONGEST],
+) {
     let n = read_full(input, space);
     for line in space[..n].split_inclusive(|b| *b == b'\n') {
-        put_line(rt, line.strip_suffix(b"\n").unwrap_or(line));
+        put_line(rt, recording, line.strip_suffix(b"\n").unwrap_or(line));
     }
 }
 
 fn main(rt: HostRuntime) {
     let mut space = [0; LONGEST];
-    put_table(&rt, &mut rt.stdin(), &mut space);
+    let mut recording = Recording {
+        outcomes: [0; recordings::LENGTH],
+        marks: [0; recordings::LENGTH],
+    };
+    put_table(&rt, &mut recording, &mut rt.stdin(), &mut space);
 }

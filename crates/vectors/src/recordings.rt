@@ -13,7 +13,7 @@ use c_recordings::{
 use clock_time::Error;
 
 // So many marks and outcomes there are.
-const LENGTH: usize = 100001;
+pub const LENGTH: usize = 100001;
 
 const UNSURE: u8 = 3;
 
@@ -43,12 +43,13 @@ pub enum Sheet {
     Unfit,
 }
 
-// Marks and their sheet, of which a command lends the first.
+// Marks and their sheet, of which a command lends the first. All commands have the same one, so that none pays for the
+// memory, and each puts into it first what it looks at.
 // The sheet stands at the front: behind the marks it is not aligned, and is filled slower.
 #[derive(Drop)]
-struct Recording {
-    outcomes: [u32; LENGTH],
-    marks: [u8; LENGTH],
+pub struct Recording {
+    pub outcomes: [u32; LENGTH],
+    pub marks: [u8; LENGTH],
 }
 
 // A sum that depends on the order too.
@@ -59,16 +60,19 @@ fn sum<T: Copy + Into<u32>>(s: &[T]) -> u32 {
     })
 }
 
-// Puts the marks of a text or, if it is empty, of the day, in place of unsure marks.
-fn load(s: &[u8], marks: &mut [u8]) {
-    if s.is_empty() {
-        day::make(marks);
-    } else if let Some(front) = marks.get_mut(..s.len()) {
-        front.copy_from_slice(s);
-    }
-}
-
 impl Recording {
+    // Puts the marks of a text or, if it is empty, of the day, in place of unsure marks.
+    fn load(&mut self, s: &[u8]) {
+        for mark in self.marks.iter_mut() {
+            *mark = UNSURE;
+        }
+        if s.is_empty() {
+            day::make(&mut self.marks);
+        } else if let Some(front) = self.marks.get_mut(..s.len()) {
+            front.copy_from_slice(s);
+        }
+    }
+
     // Puts 7 everywhere in the sheet, as far as it is lent: no more of it is looked at.
     fn unmake(&mut self, lent: Lent) {
         for outcome in self.outcomes.iter_mut().take(lent.outcomes) {
@@ -115,34 +119,36 @@ pub fn unix_time(outcome: u32) -> Result<i64, Refusal> {
 }
 
 // The number that the rule gives a place. It needs no sheet.
-pub fn outcome_at(s: &[u8], length: usize, place: usize) -> Result<u32, Refusal> {
-    let mut marks = [UNSURE; LENGTH];
-    load(s, &mut marks);
+pub fn outcome_at(
+    recording: &mut Recording,
+    s: &[u8],
+    length: usize,
+    place: usize,
+) -> Result<u32, Refusal> {
+    recording.load(s);
     let mut number = 0;
-    check(radio_clock_outcome_at(first(&marks, length), place, &mut number))?;
+    check(radio_clock_outcome_at(first(&recording.marks, length), place, &mut number))?;
     Ok(number)
 }
 
 // Puts how many outcomes a sheet has, and their sum.
-pub fn put_sheet(rt: &impl Print, s: &[u8], lent: Lent) {
-    let mut recording = Recording {
-        outcomes: [0; LENGTH],
-        marks: [UNSURE; LENGTH],
-    };
-    load(s, &mut recording.marks);
+pub fn put_sheet(rt: &impl Print, recording: &mut Recording, s: &[u8], lent: Lent) {
+    recording.load(s);
     recording.unmake(lent);
     output::put_result(rt, recording.fill(lent).map(|()| lent.outcomes));
     output::put(rt, sum(first(&recording.outcomes, lent.outcomes)));
 }
 
 // Puts what a correction answers, then the sums of the marks, of the outcomes, and of these once they are made anew.
-pub fn put_corrected(rt: &impl Print, s: &[u8], change: Change, sheet: Sheet) {
+pub fn put_corrected(
+    rt: &impl Print,
+    recording: &mut Recording,
+    s: &[u8],
+    change: Change,
+    sheet: Sheet,
+) {
     let lent = change.lent;
-    let mut recording = Recording {
-        outcomes: [0; LENGTH],
-        marks: [UNSURE; LENGTH],
-    };
-    load(s, &mut recording.marks);
+    recording.load(s);
     recording.unmake(lent);
     match sheet {
         Sheet::Right => {

@@ -90,3 +90,6 @@ numbered_unfit a h = rw h
 -- the same if no number stands after those
 pub all_fit : (rs : List Range) (z : List ℤ) → fits_all rs z ≡ true → fits rs z ≡ true
 all_fit rs z h = (both (eqb (length z) (length rs)) (fits rs z) h).1
+
+-- the three, for the proofs of `from_numbers`
+pub ruleset answers = (all_fit, numbered_fit, numbered_unfit)

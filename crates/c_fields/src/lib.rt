@@ -227,6 +227,7 @@ impl FromNumbers for ClockTime {
 
     ghost from = { time_from };
 
+    #[tactic(auto, using(crate::proofs::RangeLaws::answers), unfolding(clock_time::specs::FieldRanges::time_ranges))]
     fn from_numbers(z: &[i32]) -> Result<ClockTime, Error> {
         if are_all_within(&GPS_PLACES[..TIME_FIELDS], z) {
             return Ok(time_from(z));
@@ -240,6 +241,7 @@ impl FromNumbers for GpsTime {
 
     ghost from = { gps_from };
 
+    #[tactic(auto, using(crate::proofs::RangeLaws::answers), unfolding(clock_time::specs::FieldRanges::time_ranges, clock_time::specs::FieldRanges::gps_ranges))]
     fn from_numbers(z: &[i32]) -> Result<GpsTime, Error> {
         if are_all_within(&GPS_PLACES, z) {
             return Ok(gps_from(z));
@@ -253,6 +255,7 @@ impl FromNumbers for MinuteTime {
 
     ghost from = { minute_from };
 
+    #[tactic(auto, using(crate::proofs::RangeLaws::answers), unfolding(clock_time::specs::FieldRanges::time_ranges, crate::specs::Ranges::minute_ranges))]
     fn from_numbers(z: &[i32]) -> Result<MinuteTime, Error> {
         if are_all_within(&MINUTE_PLACES, z) {
             return Ok(minute_from(z));

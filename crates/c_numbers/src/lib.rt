@@ -110,6 +110,7 @@ fn put_first(count: usize, t: ClockTime, more: [i32; 3], fields: &mut [i32]) -> 
 
 // Puts the numbers of what was read in the place of the first of those lent. Refuses as the reader did, then with
 // LentMemory (20) if there is no room.
+#[tactic(auto, unfolding(crate::specs::Numbers::put_answer, crate::specs::Numbers::put_numbers))]
 pub fn put_answer<R: Numbers>(answer: Result<R, Error>, fields: &mut [i32]) -> Result<(), Error>
     ensures { exit (answer_of result) fields.new
         ≡ put_answer R.numbers (answer_of answer) fields.old }

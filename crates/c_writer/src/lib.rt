@@ -11,6 +11,7 @@ use dcf77::MinuteTime;
 use meinberg_gps::GpsTime;
 use time_string::Kind;
 
+#[tactic(auto, using(crate::proofs::WriteLaws::by_kind))]
 fn write_as(kind: Kind, fields: &[i32], out: &mut [u8]) -> Result<usize, Error>
     ensures { written result out.new ≡ write_as kind fields.now out.old }
 {

@@ -72,6 +72,18 @@ Refused k ks = refused k ≡ checked {A = Unit {0}} ks tt
 goes_on : {A : Type 0} (ks more : List Check) (a : A) → AllPass ks → checked more a ≡ checked (ks ++ more) a
 goes_on ks more a h = passed ks more a (accepted_passes ks tt tt (sym h)).0
 
+-- what the answer to a run still depends on: these checks, and the minute if none of them fails
+pub record Remaining (m : List ℕ) (ks : List Check) (a : MinuteTime) : Type 0 where
+  pub says : read_minute m ≡ checked ks a
+
+-- some checks that were gone through: the code stops at the first that fails, or they have passed
+module _ {m : List ℕ} (ks more : List Check) {a : MinuteTime} (remaining : Remaining m (ks ++ more) a) where
+  pub stops : {k : ℕ} → Refused k ks → read_minute m ≡ refused k
+  stops {k} h = remaining.says ∙ sym (stopped ks more a k h)
+
+  pub passes : AllPass ks → Remaining m more a
+  passes h = record { says = remaining.says ∙ sym (goes_on ks more a h) }
+
 no_second : (hour minute : ℕ) (offset : ℤ) → time_exists hour minute 0 offset ≡ (ltb hour 24 && ltb minute 60)
 unfolding time_exists
 no_second hour minute offset = and-true (ltb hour 24 && ltb minute 60)
@@ -94,46 +106,49 @@ module _ (r : Minute) where
   abbrev later : List Check
   later = let a = minute_fields m in dated a ++ timed m a
 
-  all_left : checked (start_checks m ++ (numbers ++ later)) (minute_fields m) ≡ read_minute m
+  all_left : Remaining m (start_checks m ++ (numbers ++ later)) (minute_fields m)
   unfolding read_minute minute_checks minute_fields announced
   all_left =
       let k = r.numbers in
-      simp (
-        run_length _ k.run.long r.run.is_short,
-        k.run.sure,
-        group_odd k.run 8 21 k.minute,
-        group_odd k.run 7 29 k.hour,
-        group_odd k.run 23 36 k.date,
-        digits_fit k,
-        no_second,
-      )
+      record {
+        says =
+            simp (
+              run_length _ k.run.long r.run.is_short,
+              k.run.sure,
+              group_odd k.run 8 21 k.minute,
+              group_odd k.run 7 29 k.hour,
+              group_odd k.run 23 36 k.date,
+              digits_fit k,
+              no_second,
+            );
+      }
 
   pub in_start : (k : ℕ) → Refused k (start_checks m) → refused k ≡ read_minute m
-  in_start k h = stopped (start_checks m) (numbers ++ later) (minute_fields m) k h ∙ all_left
+  in_start k h = sym (stops (start_checks m) (numbers ++ later) all_left h)
 
   module _ (s : AllPass (start_checks m)) where
-    numbers_left : checked (numbers ++ later) (minute_fields m) ≡ read_minute m
-    numbers_left = goes_on (start_checks m) (numbers ++ later) (minute_fields m) s ∙ all_left
+    numbers_left : Remaining m (numbers ++ later) (minute_fields m)
+    numbers_left = passes (start_checks m) (numbers ++ later) all_left s
 
     pub in_numbers : (k : ℕ) → Refused k numbers → refused k ≡ read_minute m
-    in_numbers k h = stopped numbers later (minute_fields m) k h ∙ numbers_left
+    in_numbers k h = sym (stops numbers later numbers_left h)
 
     module _ (n : AllPass numbers) (a : MinuteTime) (e : a ≡ minute_fields m) where
-      fields_left : checked (dated a ++ timed m a) a ≡ read_minute m
-      fields_left = rw e (goes_on numbers later (minute_fields m) n ∙ numbers_left)
+      fields_left : Remaining m (dated a ++ timed m a) a
+      fields_left = rw e (passes numbers later numbers_left n)
 
       pub in_date : (k : ℕ) → Refused k (dated a) → refused k ≡ read_minute m
-      in_date k h = stopped (dated a) (timed m a) a k h ∙ fields_left
+      in_date k h = sym (stops (dated a) (timed m a) fields_left h)
 
       module _ (d : AllPass (dated a)) where
-        time_left : checked (timed m a) a ≡ read_minute m
-        time_left = goes_on (dated a) (timed m a) a d ∙ fields_left
+        time_left : Remaining m (timed m a) a
+        time_left = passes (dated a) (timed m a) fields_left d
 
         pub in_time : (k : ℕ) → Refused k (timed m a) → refused k ≡ read_minute m
-        in_time k h = stopped (timed m a) [] a k h ∙ time_left
+        in_time k h = sym (stops (timed m a) [] time_left h)
 
         pub none_fails : AllPass (timed m a) → accepted a ≡ read_minute m
-        none_fails h = goes_on (timed m a) [] a h ∙ time_left
+        none_fails h = sym (passes (timed m a) [] time_left h).says
 
 -- the minute of the run that is made of some marks
 pub marks_of : (m : List ℕ) (r : Minute) {o : Option SureRun} {run : SureRun} → o ≡ Some run

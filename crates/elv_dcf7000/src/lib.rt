@@ -1,11 +1,11 @@
 // The string of an ELV DCF7000 clock.
 #![tactic(auto)]
 
-ghost use Rattle.std.specs.Prelude.{◌≡◌, false};
+ghost use Rattle.std.specs.Prelude.{◌≡◌, true, false};
 ghost use Rattle.std.proofs.Common.{lit<};
 ghost use Rattle.clock_time.specs.Reading.{answer_of};
-ghost use Rattle.layout.specs.Layout.{FitsLayout};
-ghost use Rattle.elv_dcf7000.specs.Elv.{elv_layout, elv_flag_fault, sent_fields, elv, read_elv};
+ghost use Rattle.layout.specs.Layout.{fits_from, FitsLayout};
+ghost use Rattle.elv_dcf7000.specs.Elv.{elv_layout, elv_flag_fault, elv_offset, sent_fields, elv, read_elv};
 
 use clock_time::{ClockTime, Error};
 use gregorian::FIRST_YEAR;
@@ -25,19 +25,31 @@ impl StringFormat<21> for Elv {
         b"00-00-00-00-00-00-00\r"
     }
 
-    // The last eight places begin with three that are tested already.
-    fn fits(s: &[u8; 21]) -> bool {
-        layout_words::eight_fit(s, 0, *b"00-00-00")
-            & layout_words::eight_fit(s, 8, *b"-00-00-0")
-            & layout_words::eight_fit(s, 13, *b"???0-00\r")
+    #[tactic(auto, unfolding(crate::specs::Elv::elv, crate::specs::Elv::read_elv))]
+    fn read_if_fits(s: &[u8; 21]) -> Option<Result<ClockTime, Error>> {
+        if fits(s) { Some(read_fitting(s)) } else { None }
     }
+}
 
-    fn read_fitting(s: &[u8; 21]) -> Result<ClockTime, Error> {
-        if has_flag_fault(s) {
-            return Err(Error::FlagLetter);
-        }
-        layout::check_without_weekday(sent_fields(s))
+// Whether every place has a byte that may stand there.
+// The last eight places begin with three that are tested already.
+fn fits(s: &[u8; 21]) -> bool
+    ensures { result ≡ fits_from true 0 elv_layout s.now }
+{
+    layout_words::eight_fit(s, 0, *b"00-00-00")
+        & layout_words::eight_fit(s, 8, *b"-00-00-0")
+        & layout_words::eight_fit(s, 13, *b"???0-00\r")
+}
+
+// Reads a string that fits its layout.
+fn read_fitting(s: &[u8; 21]) -> Result<ClockTime, Error>
+    requires { FitsLayout elv_layout s.now }
+    ensures { answer_of result ≡ read_elv s.now }
+{
+    if has_flag_fault(s) {
+        return Err(Error::FlagLetter);
     }
+    layout::check_without_weekday(sent_fields(s))
 }
 
 // Whether the number of the flags is above 7.
@@ -46,6 +58,14 @@ fn has_flag_fault(s: &[u8; 21]) -> bool
     ensures { result ≡ elv_flag_fault s.now }
 {
     (s[18] != b'0') | (b'7' < s[19])
+}
+
+// The UTC offset with and without summer time.
+#[tactic(auto, unfolding(crate::specs::Elv::elv_offset))]
+pub fn offset_of(summer: bool) -> i16
+    ensures { result ≡ elv_offset summer }
+{
+    clock_time::cet_offset(summer)
 }
 
 // The fields that are sent, and 0 for a weekday.
@@ -66,7 +86,7 @@ fn sent_fields(s: &[u8; 21]) -> ClockTime
         hour,
         minute,
         second,
-        utc_offset: clock_time::cet_offset(summer),
+        utc_offset: offset_of(summer),
         unsynchronised: flags / 4 % 2 == 1,
         unverified: false,
         summer_time: summer,

@@ -51,16 +51,43 @@ fn plain_run(s: &[u8]) -> usize
 }
 
 impl Framer {
-    // Keeps the bytes of s before its first STX or ETX, as long as there is room, and returns what is left of s.
+    // Keeps the bytes of s eight at a time, as long as eight are plain and there is room, and returns what is left of s.
+    fn keep_eights<'a>(&mut self, s: &'a [u8]) -> &'a [u8]
+        requires inside { self.old.mode ≡ Inside }
+        requires few { self.old.count ≤ 66 }
+        ensures taken { Taken self.old s.now self.new result.now }
+        ensures inside { self.new.mode ≡ Inside }
+        ensures few { self.new.count ≤ 66 }
+    {
+        let mut rest = s;
+        while let Some((eight, after)) = rest.split_first_chunk::<8>() {
+            if (ROOM - self.count < 8) || !are_plain(*eight) {
+                break;
+            }
+            self.bytes[self.count..self.count + 8].copy_from_slice(eight);
+            self.count += 8;
+            rest = after;
+        }
+        rest
+    }
+
+    // Keeps the bytes of s before its first STX or ETX, as long as there is room, and returns what is left of s. They are
+    // kept as they are looked at: a copy of a run whose length is not known is a call, which costs more than most runs.
     fn keep<'a>(&mut self, s: &'a [u8]) -> &'a [u8]
         requires inside { self.old.mode ≡ Inside }
         requires few { self.old.count ≤ 66 }
         ensures { Taken self.old s.now self.new result.now }
     {
-        let n = plain_run(&s[..s.len().min(ROOM - self.count)]);
-        self.bytes[self.count..self.count + n].copy_from_slice(&s[..n]);
-        self.count += n;
-        &s[n..]
+        let mut rest = self.keep_eights(s);
+        while let Some((b, after)) = rest.split_first() {
+            if (self.count == ROOM) || (*b == STX) | (*b == ETX) {
+                break;
+            }
+            self.bytes[self.count] = *b;
+            self.count += 1;
+            rest = after;
+        }
+        rest
     }
 
     // Takes the run at the start of s: outside a string up to STX, in one up to STX or ETX or as long as there is room.

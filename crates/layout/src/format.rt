@@ -1,7 +1,7 @@
 // The reader of any format: what a format gives, and the one function that reads its strings.
-ghost use Rattle.std.specs.Prelude.{◌≡◌, true, ◌<◌, ◌^◌};
+ghost use Rattle.std.specs.Prelude.{◌≡◌, true, ◌<◌, ◌^◌, is_some, IfSome};
 ghost use Rattle.clock_time.specs.Reading.{answer_of};
-ghost use Rattle.layout.specs.Layout.{patterned, fits_from, FitsLayout};
+ghost use Rattle.layout.specs.Layout.{patterned, fits_from};
 ghost use Rattle.layout.specs.Text.{Format, read_text};
 
 use clock_time::Error;
@@ -17,14 +17,10 @@ pub trait StringFormat<const N: usize> {
     fn pattern() -> &'static [u8; N]
         ensures { patterned result.now ≡ format.layout };
 
-    // Whether every place has a byte that may stand there.
-    fn fits(s: &[u8; N]) -> bool
-        ensures { result ≡ fits_from true 0 format.layout s.now };
-
-    // Reads a string that fits its layout.
-    fn read_fitting(s: &[u8; N]) -> Result<Self::Value, Error>
-        requires { FitsLayout format.layout s.now }
-        ensures { answer_of result ≡ read_text format s.now };
+    // Reads a string if every place has a byte that may stand there.
+    fn read_if_fits(s: &[u8; N]) -> Option<Result<Self::Value, Error>>
+        ensures fits { is_some result ≡ fits_from true 0 format.layout s.now }
+        ensures reads { IfSome result (λ answer. answer_of answer ≡ read_text format s.now) };
 
     // No string is longer than memory.
     ghost short: { N < 2 ^ 63 };
@@ -36,8 +32,8 @@ pub fn read<const N: usize, F: StringFormat<N>>(s: &[u8]) -> Result<F::Value, Er
 {
     let pattern: &[u8] = F::pattern();
     if let Some(places) = s.as_array::<N>() {
-        if F::fits(places) {
-            return F::read_fitting(places);
+        if let Some(answer) = F::read_if_fits(places) {
+            return answer;
         }
     }
     Err(crate::layout_error(pattern, s))

@@ -17,12 +17,14 @@ use gregorian::{FIRST_YEAR, LAST_YEAR};
 use place::Place;
 
 // Whether a byte at a place of a pattern offends with this error.
-#[tactic(auto, using(crate::proofs::PlacesLaws::same_error, crate::proofs::PlacesLaws::offence_is))]
 fn offends(error: Error, p: u8, b: u8) -> bool
     ensures { result ≡ nat_eq (offence (pattern_place p) b) (error_number error) }
 {
     let place = Place::of(p);
-    !place.allows(b) & (place.error() == error)
+    if place.allows(b) {
+        return false;
+    }
+    place.error() == error
 }
 
 // Whether some byte offends with this error.

@@ -96,7 +96,7 @@ fn read_some<I: Read>(rt: &HostRuntime, input: &mut I, name: &[u8], buf: &mut [u
 
 // Reads the input to its end and writes the lines of what comes, as long as writing does not fail. A proved loop has to
 // end, and nothing says that the input does. So the loop has a number of turns that no run uses up.
-// Fixed memory: only an error's text is allocated. The name is only what is told of the input.
+// In fixed memory. The name is only what is told of the input.
 fn list_input<I: Read>(
     rt: &HostRuntime,
     input: &mut I,

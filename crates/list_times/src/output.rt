@@ -1,6 +1,6 @@
 // What the program writes to standard output and to standard error, if it is not a line of the listing.
-use std::io;
 use std::io::{Error, IsTerminal, Write};
+use std::{io, str};
 
 // Writes text to standard error, as far as that can be written.
 fn tell(rt: &HostRuntime, text: &[u8]) {
@@ -10,8 +10,11 @@ fn tell(rt: &HostRuntime, text: &[u8]) {
 // Says on standard error what failed, as the caller names it, and why: the system's text for the error. The library
 // writes its number after it, ` (os error 2)`, which is left out.
 pub(crate) fn tell_error(rt: &HostRuntime, what: &[u8], error: &Error) {
-    let text: Result<_, _> = error.to_string(rt.alloc());
-    let text = text.as_ref().map_or("", |text| text.as_str());
+    let mut space = [0u8; 256];
+    let mut rest = &mut space[..];
+    let _ = write!(rest, "{error}");
+    let n = 256usize.saturating_sub(rest.len());
+    let text = str::from_utf8(&space[..n]).unwrap_or("");
     let why = text.split_once(" (os error ").map_or(text, |(why, _)| why);
     tell(rt, what);
     tell(rt, b": ");

@@ -1,10 +1,10 @@
 // The Meinberg PZF string.
 #![tactic(auto)]
 
-ghost use Rattle.std.specs.Prelude.{◌≡◌};
+ghost use Rattle.std.specs.Prelude.{◌≡◌, true};
 ghost use Rattle.std.proofs.Common.{lit<};
 ghost use Rattle.clock_time.specs.Reading.{answer_of};
-ghost use Rattle.layout.specs.Layout.{FitsLayout};
+ghost use Rattle.layout.specs.Layout.{fits_from, FitsLayout};
 ghost use Rattle.meinberg_pzf.specs.Pzf.{pzf_layout, pzf_offset, pzf_fields, pzf, read_pzf};
 
 use clock_time::{ClockTime, Error};
@@ -25,17 +25,29 @@ impl StringFormat<32> for Pzf {
         b"\x0200.00.00; 0; 00:00:00; tuvxyza\x03"
     }
 
-    fn fits(s: &[u8; 32]) -> bool {
-        layout_words::eight_fit(s, 0, *b"\x0200.00.0")
-            & layout_words::eight_fit(s, 8, *b"0; 0; 00")
-            & layout_words::eight_fit(s, 16, *b":00:00; ")
-            & layout_words::flags_fit(s, 24, *b"U#*S!AR", 3)
+    #[tactic(auto, unfolding(crate::specs::Pzf::pzf, crate::specs::Pzf::read_pzf))]
+    fn read_if_fits(s: &[u8; 32]) -> Option<Result<ClockTime, Error>> {
+        if fits(s) { Some(read_fitting(s)) } else { None }
     }
+}
 
-    #[tactic(auto, using(layout::proofs::TextLaws::reading), unfolding(crate::specs::Pzf::pzf))]
-    fn read_fitting(s: &[u8; 32]) -> Result<ClockTime, Error> {
-        layout::check_clock(fields(s), false)
-    }
+// Whether every place has a byte that may stand there.
+fn fits(s: &[u8; 32]) -> bool
+    ensures { result ≡ fits_from true 0 pzf_layout s.now }
+{
+    layout_words::eight_fit(s, 0, *b"\x0200.00.0")
+        & layout_words::eight_fit(s, 8, *b"0; 0; 00")
+        & layout_words::eight_fit(s, 16, *b":00:00; ")
+        & layout_words::flags_fit(s, 24, *b"U#*S!AR", 3)
+}
+
+// Reads a string that fits its layout.
+#[tactic(auto, using(layout::proofs::TextLaws::reading), unfolding(crate::specs::Pzf::pzf, crate::specs::Pzf::read_pzf))]
+fn read_fitting(s: &[u8; 32]) -> Result<ClockTime, Error>
+    requires { FitsLayout pzf_layout s.now }
+    ensures { answer_of result ≡ read_pzf s.now }
+{
+    layout::check_clock(fields(s), false)
 }
 
 // The UTC offset that the flags t and x stand for.

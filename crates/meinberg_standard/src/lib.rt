@@ -1,10 +1,10 @@
 // The Meinberg standard string.
 #![tactic(auto)]
 
-ghost use Rattle.std.specs.Prelude.{◌≡◌};
+ghost use Rattle.std.specs.Prelude.{◌≡◌, true};
 ghost use Rattle.std.proofs.Common.{lit<};
 ghost use Rattle.clock_time.specs.Reading.{answer_of};
-ghost use Rattle.layout.specs.Layout.{FitsLayout};
+ghost use Rattle.layout.specs.Layout.{fits_from, FitsLayout};
 ghost use Rattle.meinberg_standard.specs.Standard.{standard_layout, standard_zone, standard_fields, standard};
 ghost use Rattle.meinberg_standard.specs.Standard.{read_standard};
 
@@ -26,25 +26,37 @@ impl StringFormat<32> for Standard {
         b"\x02D:00.00.00;T:0;U:00.00.00;uvXY\x03"
     }
 
-    // The last bytes one by one: digits, flags and letters fit no sample of eight.
-    fn fits(s: &[u8; 32]) -> bool {
-        layout_words::eight_fit(s, 0, *b"\x02D:00.00")
-            & layout_words::eight_fit(s, 8, *b".00;T:0;")
-            & layout_words::eight_fit(s, 16, *b"U:00.00.")
-            & decimal::is_digit(s[24])
-            & decimal::is_digit(s[25])
-            & (s[26] == b';')
-            & ((s[27] == b' ') | (s[27] == b'#'))
-            & ((s[28] == b' ') | (s[28] == b'*'))
-            & ((s[29] == b' ') | (s[29] == b'U') | (s[29] == b'S'))
-            & ((s[30] == b' ') | (s[30] == b'!') | (s[30] == b'A'))
-            & (s[31] == 3)
+    #[tactic(auto, unfolding(crate::specs::Standard::standard, crate::specs::Standard::read_standard))]
+    fn read_if_fits(s: &[u8; 32]) -> Option<Result<ClockTime, Error>> {
+        if fits(s) { Some(read_fitting(s)) } else { None }
     }
+}
 
-    #[tactic(auto, using(layout::proofs::TextLaws::reading), unfolding(crate::specs::Standard::standard))]
-    fn read_fitting(s: &[u8; 32]) -> Result<ClockTime, Error> {
-        layout::check_clock(fields(s), false)
-    }
+// Whether every place has a byte that may stand there.
+// The last bytes one by one: digits, flags and letters fit no sample of eight.
+fn fits(s: &[u8; 32]) -> bool
+    ensures { result ≡ fits_from true 0 standard_layout s.now }
+{
+    layout_words::eight_fit(s, 0, *b"\x02D:00.00")
+        & layout_words::eight_fit(s, 8, *b".00;T:0;")
+        & layout_words::eight_fit(s, 16, *b"U:00.00.")
+        & decimal::is_digit(s[24])
+        & decimal::is_digit(s[25])
+        & (s[26] == b';')
+        & ((s[27] == b' ') | (s[27] == b'#'))
+        & ((s[28] == b' ') | (s[28] == b'*'))
+        & ((s[29] == b' ') | (s[29] == b'U') | (s[29] == b'S'))
+        & ((s[30] == b' ') | (s[30] == b'!') | (s[30] == b'A'))
+        & (s[31] == 3)
+}
+
+// Reads a string that fits its layout.
+#[tactic(auto, using(layout::proofs::TextLaws::reading), unfolding(crate::specs::Standard::standard, crate::specs::Standard::read_standard))]
+fn read_fitting(s: &[u8; 32]) -> Result<ClockTime, Error>
+    requires { FitsLayout standard_layout s.now }
+    ensures { answer_of result ≡ read_standard s.now }
+{
+    layout::check_clock(fields(s), false)
 }
 
 // The UTC offset that the zone letter stands for.

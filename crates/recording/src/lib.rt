@@ -31,6 +31,7 @@ fn check_place(marks: usize, place: usize) -> Result<(), Error>
 
 // The number that the rule gives a place. Refuses with LentMemory (20) if there are more than 100,000 marks, then with
 // Place (21) if there is no such place.
+#[tactic(auto, unfolding(crate::specs::Recording::outcome_at))]
 pub fn outcome_at(marks: &[u8], place: usize) -> Result<u32, Error>
     ensures { answer_of result ≡ outcome_at marks.now place }
 {

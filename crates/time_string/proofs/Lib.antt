@@ -1,2 +1,3 @@
 -- Laws of kinds.
 pub mod KindLaws
+pub mod ReadLaws

@@ -78,6 +78,7 @@ pub fn kind_of(s: &[u8]) -> Result<Kind, Error>
 }
 
 // Reads a string of the kind that the caller names, as that kind's own reader does.
+#[tactic(auto, using(crate::proofs::ReadLaws::by_kind))]
 pub fn read(kind: Kind, s: &[u8]) -> Result<Reading, Error>
     ensures { answer_of result ≡ read_as kind s.now }
 {

@@ -1,8 +1,9 @@
 // The format of Trimble strings.
 ghost use Rattle.std.proofs.Common.{lit<};
 ghost use Rattle.std.specs.Prelude.{◌≡◌, true, [], ◌∷◌};
-ghost use Rattle.layout.specs.Layout.{digit, free, printable, places, fits_from};
-ghost use Rattle.trimble_sv6.specs.Trimble.{trimble};
+ghost use Rattle.clock_time.specs.Reading.{answer_of};
+ghost use Rattle.layout.specs.Layout.{digit, free, printable, places, fits_from, FitsLayout};
+ghost use Rattle.trimble_sv6.specs.Trimble.{trimble_layout, trimble, read_trimble};
 
 use crate::TrimbleTime;
 use crate::fitting::Fitting;
@@ -23,18 +24,30 @@ impl StringFormat<37> for Trimble {
         b">RTM0000000000000000000000?rrrrr;*??<"
     }
 
-    fn fits(s: &[u8; 37]) -> bool {
-        layout_words::eight_fit(s, 0, *b">RTM0000")
-            & layout_words::eight_fit(s, 8, *b"00000000")
-            & layout_words::eight_fit(s, 16, *b"00000000")
-            & tail_fits(s)
-            & end_fits(s)
-    }
-
     #[tactic(auto, unfolding(crate::specs::Trimble::trimble, crate::specs::Trimble::read_trimble))]
-    fn read_fitting(s: &[u8; 37]) -> Result<TrimbleTime, Error> {
-        Fitting { s }.read()
+    fn read_if_fits(s: &[u8; 37]) -> Option<Result<TrimbleTime, Error>> {
+        if fits(s) { Some(read_fitting(s)) } else { None }
     }
+}
+
+// Whether every place has a byte that may stand there.
+fn fits(s: &[u8; 37]) -> bool
+    ensures { result ≡ fits_from true 0 trimble_layout s.now }
+{
+    layout_words::eight_fit(s, 0, *b">RTM0000")
+        & layout_words::eight_fit(s, 8, *b"00000000")
+        & layout_words::eight_fit(s, 16, *b"00000000")
+        & tail_fits(s)
+        & end_fits(s)
+}
+
+// Reads a string that fits its layout.
+#[tactic(auto, unfolding(crate::specs::Trimble::trimble, crate::specs::Trimble::read_trimble))]
+fn read_fitting(s: &[u8; 37]) -> Result<TrimbleTime, Error>
+    requires { FitsLayout trimble_layout s.now }
+    ensures { answer_of result ≡ read_trimble s.now }
+{
+    Fitting { s }.read()
 }
 
 // Whether the places 24 to 31 have two digits, any byte and the five printable bytes rrrrr. As in `layout_words`, a

@@ -1,7 +1,6 @@
 // The commands on runs of digits: `digits` reads one, `number` writes one into a lent buffer.
 use crate::refusal::Refusal;
 use crate::{digit_run, output};
-use std::io;
 
 // The number that the digits s are.
 pub fn read(s: &[u8]) -> Result<u64, Refusal> {
@@ -18,8 +17,8 @@ fn write(number: u64, count: usize, space: &mut [u8], room: usize) -> Result<usi
 }
 
 // Puts how many digits are written, and the buffer.
-pub fn put_written(rt: &impl Print, number: u64, count: usize, room: usize) -> io::Result<()> {
+pub fn put_written(rt: &impl Print, number: u64, count: usize, room: usize) {
     let mut space = output::EMPTY;
-    output::put_result(rt, write(number, count, &mut space, room))?;
-    output::put_text(rt, &space, room, 0)
+    output::put_result(rt, write(number, count, &mut space, room));
+    output::put_text(rt, &space, room, 0);
 }

@@ -3,6 +3,8 @@
 // lines are only copied.
 #![tactic(auto)]
 
+ghost use Rattle.std.specs.Prelude.{◌≤◌, length};
+
 mod commands;
 mod dates;
 mod day;
@@ -15,18 +17,18 @@ mod strings;
 mod text;
 
 use commands::Command;
-use std::alloc::Global;
-use std::io;
+use recordings::Recording;
 use std::io::Read;
+use text::{MOST_BYTES, first};
 
 // As much of a table is read.
-const LONGEST: u64 = 1048576;
+const LONGEST: usize = 1048576;
 
 // So many numbers of a command count.
 const MOST_NUMBERS: usize = 23;
 
 // Puts the answer to a command whose text is s.
-fn put_command(rt: &impl Print, alloc: Global, command: Command<'_>, s: &[u8]) -> io::Result<()> {
+fn put_command(rt: &impl Print, recording: &mut Recording, command: Command<'_>, s: &[u8]) {
     match command {
         Command::Error(place) => output::put(rt, dates::error_number(place)),
         Command::Leap(year) => output::put_truth(rt, dates::is_leap_year(year)),
@@ -47,54 +49,88 @@ fn put_command(rt: &impl Print, alloc: Global, command: Command<'_>, s: &[u8]) -
         Command::Number(number, count, room) => digits::put_written(rt, number, count, room),
         Command::Run => output::put(rt, dcf77_outcome::run_number(s)),
         Command::Outcome(outcome) => output::put_result(rt, recordings::unix_time(outcome)),
-        Command::At(length, place) => recordings::put_outcome(rt, alloc, s, length, place),
-        Command::Fill(lent) => recordings::put_sheet(rt, alloc, s, lent),
-        Command::Correct(change, sheet) => recordings::put_corrected(rt, alloc, s, change, sheet),
+        Command::At(length, place) => {
+            output::put_result(rt, recordings::outcome_at(recording, s, length, place))
+        }
+        Command::Fill(lent) => recordings::put_sheet(rt, recording, s, lent),
+        Command::Correct(change, sheet) => recordings::put_corrected(
+            rt, recording, s, change, sheet,
+        ),
     }
 }
 
+// Puts the answer to a command with this text.
+fn put_texted(rt: &impl Print, recording: &mut Recording, command: Command<'_>, shown: &[u8]) {
+    let mut space = [0; MOST_BYTES];
+    let s = text::decode(shown, command.base(), &mut space);
+    put_command(rt, recording, command, s);
+}
+
 // Puts the answer to a line, a question mark if it is no command.
-fn put_answer(rt: &impl Print, alloc: Global, line: &[u8]) -> io::Result<()> {
+fn put_answer(rt: &impl Print, recording: &mut Recording, line: &[u8]) {
     let (head, shown) = text::parts(line);
     let mut words = head.split(|b| *b == b' ');
     let name = words.next().unwrap_or(b"");
-    let numbers: Vec<u64> = words
-        .take(MOST_NUMBERS)
-        .map(commands::number_of)
-        .collect(alloc)?;
-    match Command::parse(name, &numbers) {
-        Some(command) => {
-            let s = text::decode(alloc, shown, command.base())?;
-            put_command(rt, alloc, command, &s)
-        }
-        None => rt.write_all(b" ?"),
+    let mut space = [0; MOST_NUMBERS];
+    let mut count = 0;
+    for (i, (number, word)) in space.iter_mut().zip(words).enumerate() {
+        *number = commands::number_of(word);
+        count = i + 1;
+    }
+    match Command::parse(name, first(&space, count)) {
+        Some(command) => put_texted(rt, recording, command, shown),
+        None => output::put_bytes(rt, b" ?"),
     }
 }
 
 // Puts a line, and the answer to it.
-fn put_line(rt: &impl Print, alloc: Global, line: &[u8]) -> io::Result<()> {
-    rt.write_all(line)?;
+fn put_line(rt: &impl Print, recording: &mut Recording, line: &[u8]) {
+    output::put_bytes(rt, line);
     match line {
         [] | [0 | b'#', ..] => {}
         _ => {
-            rt.write_all(b" =")?;
-            put_answer(rt, alloc, line)?;
+            output::put_bytes(rt, b" =");
+            put_answer(rt, recording, line);
         }
     }
-    rt.write_all(b"\n")
+    output::put_bytes(rt, b"\n");
 }
 
-// Reads the table, to the end of the input or the read that fails, and puts each line with the answer to it.
-fn put_table(rt: &impl Print, alloc: Global, input: &mut impl Read) -> io::Result<()> {
-    let mut table = Vec::new(alloc);
-    let _ = input.take(LONGEST).read_to_end(&mut table);
-    for line in table.split_inclusive(|b| *b == b'\n') {
-        put_line(rt, alloc, line.strip_suffix(b"\n").unwrap_or(line))?;
+// Reads until the space is full, the input ends or a read fails, and answers how many bytes came.
+// Not `read_to_end`: the space is fixed, and what came before a read that fails counts.
+fn read_full<I: Read>(input: &mut I, space: &mut [u8]) -> usize
+    ensures { result ≤ length space.new }
+{
+    let mut done = 0;
+    while done < space.len() {
+        let n = input.read(&mut space[done..]).unwrap_or(0);
+        if n == 0 {
+            break;
+        }
+        done += n;
     }
-    Ok(())
+    done
 }
 
-// A write that fails ends the table, and is not told.
+// Reads the table, as far as there is space, and puts each line with the answer to it.
+// Behind a reference the array's length needs no proof; that of a local array so long finds none.
+fn put_table<I: Read>(
+    rt: &impl Print,
+    recording: &mut Recording,
+    input: &mut I,
+    space: &mut [u8; LONGEST],
+) {
+    let n = read_full(input, space);
+    for line in space[..n].split_inclusive(|b| *b == b'\n') {
+        put_line(rt, recording, line.strip_suffix(b"\n").unwrap_or(line));
+    }
+}
+
 fn main(rt: HostRuntime) {
-    let _ = put_table(&rt, rt.alloc(), &mut rt.stdin());
+    let mut space = [0; LONGEST];
+    let mut recording = Recording {
+        outcomes: [0; recordings::LENGTH],
+        marks: [0; recordings::LENGTH],
+    };
+    put_table(&rt, &mut recording, &mut rt.stdin(), &mut space);
 }

@@ -4,17 +4,21 @@
 // right, `mend` with one that had a number put at a place of it, and `unfit` with one that holds 7 everywhere.
 // `outcome` has an outcome as its only number, and gives its Unix time.
 use crate::refusal::{Refusal, check};
+use crate::text::first;
 use crate::{day, output};
 use c_recordings::{
     radio_clock_correct_mark, radio_clock_fill_outcomes, radio_clock_outcome_at,
     radio_clock_outcome_unix_time,
 };
 use clock_time::Error;
-use std::alloc::{AllocError, Global};
-use std::io;
 
 // So many marks and outcomes there are.
-const LENGTH: usize = 100001;
+pub const LENGTH: usize = 100001;
+
+const UNSURE: u8 = 3;
+
+// What an outcome is before the sheet is made.
+const UNFIT: u32 = 7;
 
 // How many marks and outcomes are lent.
 #[derive(Clone, Copy)]
@@ -39,16 +43,13 @@ pub enum Sheet {
     Unfit,
 }
 
-// Marks and their sheet, of which a command lends the first.
+// Marks and their sheet, of which a command lends the first. All commands have the same one, so that none pays for the
+// memory, and each puts into it first what it looks at.
+// The sheet stands at the front: behind the marks it is not aligned, and is filled slower.
 #[derive(Drop)]
-struct Recording {
-    marks: Vec<u8>,
-    outcomes: Vec<u32>,
-}
-
-// The first n, or all if they are fewer.
-fn first<T>(s: &[T], n: usize) -> &[T] {
-    s.get(..n).unwrap_or(s)
+pub struct Recording {
+    pub outcomes: [u32; LENGTH],
+    pub marks: [u8; LENGTH],
 }
 
 // A sum that depends on the order too.
@@ -60,27 +61,28 @@ fn sum<T: Copy + Into<u32>>(s: &[T]) -> u32 {
 }
 
 impl Recording {
-    // The marks of a text or, if it is empty, of the day, in place of unsure marks; and 7 everywhere in the sheet.
-    fn new(alloc: Global, s: &[u8]) -> Result<Recording, AllocError> {
-        let mut marks = vec![in alloc; 3u8; LENGTH]?;
+    // Puts the marks of a text or, if it is empty, of the day, in place of unsure marks.
+    fn load(&mut self, s: &[u8]) {
+        for mark in self.marks.iter_mut() {
+            *mark = UNSURE;
+        }
         if s.is_empty() {
-            day::make(&mut marks);
-        } else if let Some(front) = marks.as_mut_slice().get_mut(..s.len()) {
+            day::make(&mut self.marks);
+        } else if let Some(front) = self.marks.get_mut(..s.len()) {
             front.copy_from_slice(s);
         }
-        let outcomes = vec![in alloc; 7u32; LENGTH]?;
-        Ok(Recording { marks, outcomes })
     }
 
-    fn outcome_at(&self, length: usize, place: usize) -> Result<u32, Refusal> {
-        let mut number = 0;
-        check(radio_clock_outcome_at(first(&self.marks, length), place, &mut number))?;
-        Ok(number)
+    // Puts 7 everywhere in the sheet, as far as it is lent: no more of it is looked at.
+    fn unmake(&mut self, lent: Lent) {
+        for outcome in self.outcomes.iter_mut().take(lent.outcomes) {
+            *outcome = UNFIT;
+        }
     }
 
     // Makes the sheet. Refuses with LentMemory (20) if there are fewer outcomes than are lent; then it stays as it was.
     fn fill(&mut self, lent: Lent) -> Result<(), Refusal> {
-        match self.outcomes.as_mut_slice().get_mut(..lent.outcomes) {
+        match self.outcomes.get_mut(..lent.outcomes) {
             Some(outcomes) => check(radio_clock_fill_outcomes(
                 first(&self.marks, lent.marks),
                 outcomes,
@@ -97,10 +99,10 @@ impl Recording {
 
     // Puts a mark, and answers how many outcomes change: 0 if there are fewer marks or outcomes than are lent.
     fn correct(&mut self, change: Change) -> Result<usize, Refusal> {
-        let Some(marks) = self.marks.as_mut_slice().get_mut(..change.lent.marks) else {
+        let Some(marks) = self.marks.get_mut(..change.lent.marks) else {
             return Ok(0);
         };
-        let Some(outcomes) = self.outcomes.as_mut_slice().get_mut(..change.lent.outcomes) else {
+        let Some(outcomes) = self.outcomes.get_mut(..change.lent.outcomes) else {
             return Ok(0);
         };
         let mut changed = 0;
@@ -116,35 +118,38 @@ pub fn unix_time(outcome: u32) -> Result<i64, Refusal> {
     Ok(time)
 }
 
-// Puts the number that the rule gives a place.
-pub fn put_outcome(
-    rt: &impl Print,
-    alloc: Global,
+// The number that the rule gives a place. It needs no sheet.
+pub fn outcome_at(
+    recording: &mut Recording,
     s: &[u8],
     length: usize,
     place: usize,
-) -> io::Result<()> {
-    let recording = Recording::new(alloc, s)?;
-    output::put_result(rt, recording.outcome_at(length, place))
+) -> Result<u32, Refusal> {
+    recording.load(s);
+    let mut number = 0;
+    check(radio_clock_outcome_at(first(&recording.marks, length), place, &mut number))?;
+    Ok(number)
 }
 
 // Puts how many outcomes a sheet has, and their sum.
-pub fn put_sheet(rt: &impl Print, alloc: Global, s: &[u8], lent: Lent) -> io::Result<()> {
-    let mut recording = Recording::new(alloc, s)?;
-    output::put_result(rt, recording.fill(lent).map(|()| lent.outcomes))?;
-    output::put(rt, sum(first(&recording.outcomes, lent.outcomes)))
+pub fn put_sheet(rt: &impl Print, recording: &mut Recording, s: &[u8], lent: Lent) {
+    recording.load(s);
+    recording.unmake(lent);
+    output::put_result(rt, recording.fill(lent).map(|()| lent.outcomes));
+    output::put(rt, sum(first(&recording.outcomes, lent.outcomes)));
 }
 
 // Puts what a correction answers, then the sums of the marks, of the outcomes, and of these once they are made anew.
 pub fn put_corrected(
     rt: &impl Print,
-    alloc: Global,
+    recording: &mut Recording,
     s: &[u8],
     change: Change,
     sheet: Sheet,
-) -> io::Result<()> {
+) {
     let lent = change.lent;
-    let mut recording = Recording::new(alloc, s)?;
+    recording.load(s);
+    recording.unmake(lent);
     match sheet {
         Sheet::Right => {
             let _ = recording.fill(lent);
@@ -155,9 +160,9 @@ pub fn put_corrected(
         }
         Sheet::Unfit => {}
     }
-    output::put_result(rt, recording.correct(change))?;
-    output::put(rt, sum(first(&recording.marks, lent.marks)))?;
-    output::put(rt, sum(first(&recording.outcomes, lent.outcomes)))?;
+    output::put_result(rt, recording.correct(change));
+    output::put(rt, sum(first(&recording.marks, lent.marks)));
+    output::put(rt, sum(first(&recording.outcomes, lent.outcomes)));
     let _ = recording.fill(lent);
-    output::put(rt, sum(first(&recording.outcomes, lent.outcomes)))
+    output::put(rt, sum(first(&recording.outcomes, lent.outcomes)));
 }

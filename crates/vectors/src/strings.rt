@@ -10,7 +10,6 @@ use c_readings::instant::radio_clock_unix_time;
 use c_readings::minutes::{radio_clock_read_minute, radio_clock_write_minute};
 use c_readings::strings::{radio_clock_kind, radio_clock_read, radio_clock_write};
 use c_readings::trimble::radio_clock_read_trimble;
-use std::io;
 
 pub const MINUTE: u8 = 4;
 
@@ -50,11 +49,10 @@ fn kind_of(s: &[u8]) -> Result<u8, Refusal> {
     Ok(kind)
 }
 
-fn put_fields(rt: &impl Print, fields: &[i32]) -> io::Result<()> {
+fn put_fields(rt: &impl Print, fields: &[i32]) {
     for field in fields {
-        output::put(rt, *field)?;
+        output::put(rt, *field);
     }
-    Ok(())
 }
 
 // True if the numbers are written as s.
@@ -67,28 +65,28 @@ fn are_written_as(kind: u8, fields: &[i32], s: &[u8]) -> bool {
 }
 
 // Puts the numbers that s is read as, and whether they are written back as s.
-pub fn put_read(rt: &impl Print, kind: u8, s: &[u8]) -> io::Result<()> {
+pub fn put_read(rt: &impl Print, kind: u8, s: &[u8]) {
     let mut space = [0; MOST_FIELDS];
     if let Err(refusal) = read(kind, s, &mut space) {
-        return output::put(rt, refusal);
+        output::put(rt, refusal);
+        return;
     }
     let fields = &space[..count_of(kind)];
-    put_fields(rt, fields)?;
-    output::put_truth(rt, are_written_as(kind, fields, s))
+    put_fields(rt, fields);
+    output::put_truth(rt, are_written_as(kind, fields, s));
 }
 
 // Puts the kind of s, and what it is read as.
-pub fn put_kind(rt: &impl Print, s: &[u8]) -> io::Result<()> {
+pub fn put_kind(rt: &impl Print, s: &[u8]) {
     let kind = kind_of(s);
-    output::put_result(rt, kind)?;
-    match kind {
-        Ok(kind) => put_read(rt, kind, s),
-        Err(_) => Ok(()),
+    output::put_result(rt, kind);
+    if let Ok(kind) = kind {
+        put_read(rt, kind, s);
     }
 }
 
 // Puts the numbers that s is read as, as a Trimble string.
-pub fn put_trimble(rt: &impl Print, s: &[u8]) -> io::Result<()> {
+pub fn put_trimble(rt: &impl Print, s: &[u8]) {
     let mut fields = [0; 15];
     match check(radio_clock_read_trimble(s, &mut fields)) {
         Ok(()) => put_fields(rt, &fields),
@@ -106,7 +104,7 @@ fn write_first(kind: u8, fields: &[i32], space: &mut [u8], room: usize) -> Resul
 
 // Puts how many bytes are written, and the buffer. The first number is the kind, the last the room, and those between
 // are what is written; of fewer than two numbers these are zeros.
-pub fn put_written(rt: &impl Print, numbers: &[u64]) -> io::Result<()> {
+pub fn put_written(rt: &impl Print, numbers: &[u64]) {
     let kind = numbers.first().copied().unwrap_or(0);
     let room = numbers.last().copied().unwrap_or(0) as usize;
     let given: &[u64] = match numbers {
@@ -122,9 +120,9 @@ pub fn put_written(rt: &impl Print, numbers: &[u64]) -> io::Result<()> {
     output::put_result(
         rt,
         write_first((kind % 256) as u8, fields, &mut space, room),
-    )?;
+    );
     let base = if kind == u64::from(MINUTE) { b'0' } else { 0 };
-    output::put_text(rt, &space, room, base)
+    output::put_text(rt, &space, room, base);
 }
 
 // The low 32 bits as a signed number.

@@ -3,10 +3,8 @@
 ghost use Rattle.std.specs.Prelude.{◌≤◌, length};
 ghost use Rattle.std.specs.Iterator.{at_most};
 
-use std::alloc::{AllocError, Global};
-
 // So many bytes of a text count.
-const MOST_BYTES: usize = 256;
+pub const MOST_BYTES: usize = 256;
 
 // The words of a line, up to a colon, and its text, which starts two bytes after the colon.
 pub fn parts(line: &[u8]) -> (&[u8], &[u8]) {
@@ -14,6 +12,11 @@ pub fn parts(line: &[u8]) -> (&[u8], &[u8]) {
     let words = parts.next().unwrap_or(b"");
     let shown = parts.next().and_then(|shown| shown.get(1..));
     (words, shown.unwrap_or(b""))
+}
+
+// The first n, or all if they are fewer.
+pub fn first<T>(s: &[T], n: usize) -> &[T] {
+    s.get(..n).unwrap_or(s)
 }
 
 // What a hexadecimal digit stands for: its low four bits, and 9 more for a letter.
@@ -46,10 +49,13 @@ impl Iterator for Decoded<'_> {
     }
 }
 
-// The bytes that a text stands for, each less `base`.
-pub fn decode(alloc: Global, shown: &[u8], base: u8) -> Result<Vec<u8>, AllocError> {
-    Decoded(shown)
-        .take(MOST_BYTES)
-        .map(|b| b.wrapping_sub(base))
-        .collect(alloc)
+// Puts the bytes that a text stands for, each less `base`, to the front of the space, as far as there is room, and
+// answers these.
+pub fn decode<'a>(shown: &[u8], base: u8, space: &'a mut [u8; MOST_BYTES]) -> &'a [u8] {
+    let mut count = 0;
+    for (i, (place, b)) in space.iter_mut().zip(Decoded(shown)).enumerate() {
+        *place = b.wrapping_sub(base);
+        count = i + 1;
+    }
+    first(space, count)
 }

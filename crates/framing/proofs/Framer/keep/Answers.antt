@@ -1,35 +1,15 @@
 use native.Mathlib.Omega.{arith}
-use mathlib.Core.Path.{◌≡◌}
-use mathlib.Core.List.{List, append_assoc}
-use Prim.Native.Nat.{ℕ, ◌+◌, ◌-◌, ◌≤◌, min}
-use lib.ListN.{length, take, length-take}
-use lib.Seq.{drop-drop}
-use Rattle.std.proofs.Common.{rules}
-use Rattle.framing.specs.Run.{before}
-use Rattle.framing.proofs.FeedLaws.{rest}
-use Rattle.framing.proofs.PlainLaws.{before_take, taken_kept}
+use mathlib.Core.Path.{refl, sym}
+use Prim.Native.Nat.{◌<◌}
+use Rattle.framing.proofs.FeedLaws.{taken_step}
+use Rattle.framing.proofs.StepLaws.{step_keeps}
 use Rattle.framing.proofs.Framer.keep.Goals as goal
 
-room : (s : List ℕ) (n m count : ℕ) → n ≤ length (take m s) → m ≡ min (length s) (66 - count) → count ≤ 66
-    → count + n ≤ 66
-room s n m count h e few = omega (arith, length-take m s)
-
-pub overflow_add-self : goal.overflow_add-self
-overflow_add-self c = omega (arith, room _ _ _ _ c.plain_run-n.ensures.within c.min.ensures c.requires.few)
-
-pub slice_bounds-copy_from_slice-end : goal.slice_bounds-copy_from_slice-end
-slice_bounds-copy_from_slice-end c =
-    let h = room _ _ _ _ c.plain_run-n.ensures.within c.min.ensures c.requires.few in
-    search rules
-
-pub returns : goal.returns
-returns c =
-    let s = c.args.s.now in
-    let f = c.args.self.now in
-    let n = c.plain_run-n.result in
-    let size : length f.bytes ≡ 66 = search rules in
-    let plain : n ≤ before 3 s = omega (arith, c.plain_run-n.ensures.before, before_take 3 c.min.result s) in
-    let same : f.count + n - f.count ≡ n = omega arith in
-    rw (rest s n, c.copy_from_slice.ensures.after, same, drop-drop, ← append_assoc)
-    (taken_kept f s n c.requires.inside plain (room _ _ _ _ c.plain_run-n.ensures.within c.min.ensures c.requires.few)
-    size)
+pub loop-b-preserved : goal.loop-b-preserved
+loop-b-preserved c =
+    let f = c.loop-b.self in
+    let inside = c.loop-b.invariant.1.0 in
+    let room : f.count < 66 = omega (arith, c.loop-b.invariant.1.1, c.if-self-eq-ROOM.false) in
+    let w = rw c.in-Some.ensures.cases.0 at c.loop-b.invariant.0 in
+    let step = rw (sym inside) at (step_keeps f.bytes f.count c.in-Some.b.now room c.if-b.false) in
+    (taken_step _ _ _ _ _ w _ _ step refl, (inside, omega (arith, room)))

@@ -8,12 +8,4 @@ pub returns : goal.returns
 unfolding are_digits right_aligned
 returns c =
     rw (slice_known 4 c.args.bytes (search rules))
-    (simp (
-      and-true,
-      c.is_digit-one.ensures,
-      c.is_digit.ensures,
-      c.is_digit-2.ensures,
-      c.is_first_digit.ensures,
-      c.is_first_digit-2.ensures,
-      c.is_first_digit-3.ensures,
-    ))
+    (simp and-true (cc))

@@ -1,0 +1,3 @@
+-- Laws of writing from numbers.
+pub mod WriteLaws
+pub mod WritersLaws
